@@ -1,0 +1,4 @@
+pub mod Bytes
+pub mod Changes
+pub mod Driven
+pub mod Latch

@@ -1,0 +1,36 @@
+// The answer buffer: what a chip drives for each of the first `n` bytes of a frame. Bytes from `n` on are untouched.
+ghost use mathlib.Core.Path.{_≡_};
+ghost use Prim.Native.Nat.{ℕ, _+_, _-_};
+ghost use lib.ListN.{length};
+ghost use Rattle.cells.specs.Driven.{driven, silent, repeated, readOut};
+use crate::range::byte_wrapped;
+use crate::range::erase;
+
+/// Nothing is driven: the line floats high.
+pub fn drive_nothing(answer: &mut [u8], n: usize)
+    ensures after { λ _. ⌜ now (answer .exit) ≡ driven silent n (now (answer .entry)) ⌝ }
+{
+    erase(answer, 0, n);
+}
+
+/// FF while the code comes in, then one value over and over.
+pub fn drive_repeated(answer: &mut [u8], n: usize, value: u8)
+    ensures after { λ _. ⌜ now (answer .exit) ≡ driven (repeated value) n (now (answer .entry)) ⌝ }
+{
+    for i in 0..n.min(answer.len()) {
+        answer[i] = if i == 0 { 0xff } else { value };
+    }
+}
+
+/// FF for `skip` bytes, then the cells from the address `at` on, going from the last cell to the first.
+pub fn drive_range(answer: &mut [u8], n: usize, cells: &[u8], at: u32, skip: usize)
+    ensures after { λ _. ⌜ now (answer .exit) ≡ driven (readOut (now (cells .entry)) at skip) n (now (answer .entry)) ⌝ }
+{
+    for i in 0..n.min(answer.len()) {
+        answer[i] = if i < skip {
+            0xff
+        } else {
+            byte_wrapped(cells, at as usize + (i - skip))
+        };
+    }
+}
