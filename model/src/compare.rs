@@ -71,7 +71,7 @@ pub struct Difference {
 }
 
 fn random_trace(random: &mut Random) -> Vec<u8> {
-    let seed = random.next();
+    let seed = random.number();
     let size = match random.below(10) {
         0 => random.below(20),
         1..=2 => random.below(200),
@@ -90,7 +90,8 @@ fn run(bench: &Path, trace: &Path) -> io::Result<(ExitStatus, Vec<u8>)> {
     let output = Command::new(bench)
         .stdin(File::open(trace)?)
         .stderr(Stdio::inherit())
-        .output()?;
+        .output()
+        .map_err(|error| io::Error::new(error.kind(), format!("{}: {error}", bench.display())))?;
     Ok((output.status, output.stdout))
 }
 

@@ -25,7 +25,7 @@ pub fn bytes(text: &str) -> Vec<u8> {
             None => panic!("not a hexadecimal digit: {character:?} in {text:?}"),
         })
         .collect();
-    assert!(digits.len() % 2 == 0, "half a byte in {text:?}");
+    assert!(digits.len().is_multiple_of(2), "half a byte in {text:?}");
     digits
         .chunks(2)
         .map(|pair| pair[0] << 4 | pair[1])

@@ -14,9 +14,9 @@ use crate::random::mixed::{extended, Lock};
 use crate::random::Random;
 use crate::recorder::Recorder;
 
-const SEED_BEFORE_LOCK: u64 = 25_08;
+const SEED_BEFORE_LOCK: u64 = 2508;
 const SIZE_BEFORE_LOCK: usize = 80_000;
-const SEED_AFTER_LOCK: u64 = 80_52;
+const SEED_AFTER_LOCK: u64 = 8052;
 const SIZE_AFTER_LOCK: usize = 12_000;
 
 /// The long trace, always the same.

@@ -13,6 +13,7 @@ use Rattle.std.proofs.shelf.Lists.{ext-getD, getD-set-same, getD-set-other}
 use Rattle.std.proofs.shelf.Tests.{cases-eq}
 use Rattle.std.proofs.shelf.Ways.{tells}
 use Rattle.cells.specs.Bytes.{counted, changed, changedAt, within}
+use Rattle.cells.specs.Changes.{from}
 
 pub length-counted : (f : ℕ → ℕ) (n : ℕ) → length (counted f n) ≡ n
 unfolding counted
@@ -88,3 +89,7 @@ changed-step first m i v g xs ys at lt l new done n more a h =
 pub changed-ran : (first m len : ℕ) (g : ℕ → ℕ → ℕ) (xs ys : List ℕ) → length ys ≡ length xs → m ≤ len → min (first + len) (length xs) ≤ first + m → ((a : ℕ) → a < length xs → getD ys a 0 ≡ changedAt first m g xs a) → ys ≡ changed first len g xs
 changed-ran first m len g xs ys l u e each =
     changed-all first len g xs ys l (λ a h. each a h ∙ changed-clipped first m len g xs a h u e)
+
+-- at the address 0 a rule from a base is the rule itself
+pub changed-from-zero : (first len : ℕ) (g : ℕ → ℕ → ℕ) (xs : List ℕ) → changed first len (from 0 g) xs ≡ changed first len g xs
+changed-from-zero first len g xs = changed-same first len (from 0 g) g xs (λ a old. ap (λ (m : ℕ). g m old) (zero-add a))

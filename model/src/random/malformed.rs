@@ -30,7 +30,7 @@ pub const FLAWS: [Flaw; 7] = [
 /// A random trace of about the size, with one random flaw.
 pub fn malformed(seed: u64, size: usize) -> Vec<u8> {
     let mut random = Random::new(seed);
-    let trace = mixed::trace(random.next(), size, Lock::Late);
+    let trace = mixed::trace(random.number(), size, Lock::Late);
     let flaw = random.pick(&FLAWS);
     broken(trace, flaw, &mut random)
 }

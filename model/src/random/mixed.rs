@@ -98,7 +98,7 @@ impl Author {
     }
 
     fn wake(&mut self) {
-        let tail = self.random.below(4);
+        let tail = self.random.below(8);
         let mut frame = vec![0xAB];
         frame.extend(self.random.bytes(tail));
         let odd_bits = self.some_odd_bits();
@@ -115,7 +115,7 @@ impl Author {
 
     /// Usually clears the protection if it stands in the way.
     fn lift_protection(&mut self, in_the_way: bool) {
-        if in_the_way && self.random.percent(88) {
+        if in_the_way && self.random.percent(80) {
             let keep_quad = if self.random.percent(50) { 0x02 } else { 0x00 };
             self.write_settings(0x00, Some(keep_quad));
         }
@@ -129,7 +129,7 @@ impl Author {
     fn allow_quad_for(&mut self, code: u8) {
         let settings = self.recorder.chip().settings();
         let needed = Command::decode(code).is_some_and(Command::needs_quad);
-        if needed && !settings.quad_enable && self.random.percent(88) {
+        if needed && !settings.quad_enable && self.random.percent(75) {
             let [low, high] = settings.bits().to_le_bytes();
             self.write_settings(low, Some(high | 0x02));
         }
@@ -482,7 +482,7 @@ impl Author {
         match self.random.below(5) {
             0 => self.recorder.ticks(0),
             1 => self.recorder.ticks(0xFFFF),
-            2 => self.recorder.ticks(self.random.next() as u16),
+            2 => self.recorder.ticks(self.random.number() as u16),
             _ => {
                 let junk = self.junk();
                 self.recorder.cut(junk);
@@ -539,18 +539,18 @@ impl Author {
 
     /// A command with too few bytes, too many, or odd bits it does not allow.
     fn send_misshapen_frame(&mut self) {
-        let mut frame = self.well_shaped_frame();
-        match self.random.below(3) {
-            0 => frame.truncate(self.random.between(1, frame.len())),
-            1 => frame.extend(self.random.bytes(1)),
-            _ => {}
-        }
-        let odd_bits = self.random.below(8) as u8;
-        let shaped = Command::decode(frame[0]).is_some_and(|command| {
-            command.lengths().contains(&frame.len()) && (odd_bits == 0 || command.allows_odd_bits())
-        });
-        if !shaped {
-            self.send_with(&frame, odd_bits);
+        loop {
+            let mut frame = self.well_shaped_frame();
+            match self.random.below(3) {
+                0 => frame.truncate(self.random.between(1, frame.len())),
+                1 => frame.extend(self.random.bytes(1)),
+                _ => {}
+            }
+            let odd_bits = self.random.below(8) as u8;
+            if is_misshapen(&frame, odd_bits) {
+                self.send_with(&frame, odd_bits);
+                return;
+            }
         }
     }
 
@@ -653,11 +653,11 @@ impl Author {
     /// Often near the edge of a register, and now and then beyond them all.
     fn security_address(&mut self) -> usize {
         match self.random.below(100) {
-            0..=4 => self
+            0..=6 => self
                 .random
                 .pick(&[0x400, 0x401, 0x1000, 0x01_0000, 0x80_0000, 0xFF_FFFF]),
-            5 => SECURITY_LENGTH + self.random.below(0xFF_FC00),
-            6..=35 => (self.random.below(5) * PAGE + SECURITY_LENGTH - 3) % SECURITY_LENGTH,
+            7 => SECURITY_LENGTH + self.random.below(0xFF_FC00),
+            8..=35 => (self.random.below(5) * PAGE + SECURITY_LENGTH - 3) % SECURITY_LENGTH,
             _ => self.random.below(SECURITY_LENGTH),
         }
     }
@@ -680,6 +680,13 @@ impl Author {
             _ => self.random.byte(),
         }
     }
+}
+
+/// Whether the frame's command does not take this many bytes or odd bits.
+fn is_misshapen(frame: &[u8], odd_bits: u8) -> bool {
+    Command::decode(frame[0]).is_some_and(|command| {
+        !command.lengths().contains(&frame.len()) || (odd_bits > 0 && !command.allows_odd_bits())
+    })
 }
 
 /// A code and its address, high byte first.

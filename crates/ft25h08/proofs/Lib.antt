@@ -1,0 +1,3 @@
+pub mod Registering
+pub mod Counting
+pub mod Interrupting

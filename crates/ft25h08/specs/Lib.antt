@@ -1,0 +1,13 @@
+pub mod Accepted
+pub mod Activities
+pub mod Birth
+pub mod Chip
+pub mod Counts
+pub mod Frame
+pub mod Pin
+pub mod PowerCut
+pub mod Queries
+pub mod Refusals
+pub mod Registers
+pub mod State
+pub mod Tick

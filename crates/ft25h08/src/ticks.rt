@@ -1,0 +1,30 @@
+// How long each kind of change takes.
+ghost use mathlib.Core.Path.{_≡_};
+ghost use Rattle.ft25h08.specs.Counts.{allCount};
+
+/// The ticks that each kind of change takes. A tick is the model's unit of time.
+#[derive(Clone, Copy)]
+pub struct Ticks {
+    pub status_write: u16,
+    /// a page program, of the array or of a security register
+    pub program: u16,
+    /// a sector erase, and the erase of the security registers
+    pub erase_sector: u16,
+    pub erase_block32: u16,
+    pub erase_block64: u16,
+    pub erase_chip: u16,
+}
+
+impl Ticks {
+    /// Whether each count is at least 1.
+    pub fn all_count(self) -> bool
+        ensures { λ r. ⌜ r ≡ allCount self ⌝ }
+    {
+        self.status_write > 0
+            && self.program > 0
+            && self.erase_sector > 0
+            && self.erase_block32 > 0
+            && self.erase_block64 > 0
+            && self.erase_chip > 0
+    }
+}
