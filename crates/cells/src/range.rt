@@ -13,7 +13,7 @@ fn end_of(first: usize, len: usize, size: usize) -> usize
 }
 
 // The byte of a buffer that is repeated over all addresses; 0 if the buffer is empty.
-pub(crate) fn byte_wrapped(bytes: &[u8], at: usize) -> u8
+fn byte_wrapped(bytes: &[u8], at: usize) -> u8
     ensures { λ r. ⌜ r ≡ wrapped (now (bytes .entry)) at ⌝ }
 {
     if bytes.is_empty() {
