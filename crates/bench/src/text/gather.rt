@@ -59,7 +59,8 @@ impl Text {
         if want <= self.buffer.len() {
             return Ok(());
         }
-        self.buffer.resize(want.saturating_add(GROWTH), 0)
+        self.buffer.resize(want.saturating_add(GROWTH), 0)?;
+        Ok(())
     }
 
     /// One byte more.

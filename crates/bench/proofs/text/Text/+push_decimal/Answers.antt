@@ -1,0 +1,21 @@
+use mathlib.Core.Path.{_≡_, sym, ap, _∙_}
+use mathlib.Core.List.{List, [], _∷_, _++_}
+use Prim.Native.Nat.{ℕ, _+_, _/_, _%_}
+use native.Mathlib.Omega.{arith}
+use Rattle.std.specs.Written.{decimal}
+use Rattle.std.proofs.shelf.Decimals.{decimal-digit, decimal-step}
+use Rattle.bench.specs.Gathered.{textOf}
+use Rattle.bench.proofs.Appending.{still-made, then}
+use Rattle.bench.proofs.text.Text.+push_decimal.Needs as need
+
+pub returns-then-n-lt10 : need.returns-then-n-lt10
+returns-then-n-lt10 t c =
+    still-made (c .push .result) (λ _ e. e ∙ ap (λ (ds : List ℕ). textOf (c .args .self .now) ++ ds) (sym (decimal-digit (c .args .n) (omega arith)))) (c .push .ensures)
+
+pub returns : need.returns
+returns t c =
+    still-made (c .push-2 .result)
+    (λ _ e.
+    then (textOf (c .args .self .now)) (decimal (c .args .n / 10)) ((48 + c .args .n % 10) ∷ []) (c .in-Continue-push-decimal .ensures tt) e
+    ∙ ap (λ (ds : List ℕ). textOf (c .args .self .now) ++ ds) (sym (decimal-step (c .args .n) (omega arith) (omega arith))))
+    (c .push-2 .ensures)
