@@ -1,1 +1,4 @@
 pub mod Appending
+pub mod Clocking
+pub mod Ticking
+pub mod Answering
