@@ -30,3 +30,4 @@ pub record Clocked (n : ℕ) (rest before after : List ℕ) : Type 0 where
   pub run : ByteRun n rest
   pub grew : after ≡ before ++ bodies n rest
   pub room : length after ≤ 4096
+  pub inside : 2 * n ≤ length rest

@@ -2,20 +2,65 @@
 mod bench;
 mod frame;
 mod record;
+mod replay;
 mod text;
 
+use bench::Bench;
+use ft25h08::Ft25h08;
+use ft25h08::Ticks;
+use replay::Replay;
+use std::error::AnyError;
+use std::io::Read;
+use std::io::Write;
 use text::Text;
 
-fn main(rt: LibcRuntime) -> Result<(), std::error::AnyError> {
+// The trace is read in parts of at most this many bytes.
+const PART: usize = 1_048_576;
+
+fn newborn_chip(rt: &LibcRuntime) -> Result<Ft25h08, AnyError> {
+    let ticks = Ticks {
+        status_write: 2,
+        program: 3,
+        erase_sector: 5,
+        erase_block32: 8,
+        erase_block64: 13,
+        erase_chip: 21,
+    };
+    let array = vec![in rt.alloc(); 0xff; 65_536]?;
+    match Ft25h08::birth_refusal(array.len(), ticks) {
+        Ok(()) => Ok(Ft25h08::new(array, ticks)),
+        Err(_) => Err("no chip has such an array".into()),
+    }
+}
+
+fn read_trace(rt: &LibcRuntime) -> Result<Vec<u8>, AnyError> {
+    let mut trace = Vec::new(rt.alloc());
+    let mut part = vec![in rt.alloc(); 0; PART]?;
+    for _ in 0..u64::MAX {
+        let n = rt.stdin().read(part.as_mut_slice())?;
+        if n == 0 {
+            break;
+        }
+        trace.extend_from_slice(&part.as_slice()[0..n])?;
+    }
+    Ok(trace)
+}
+
+fn replay_trace(rt: &LibcRuntime) -> Result<(), AnyError> {
+    let trace = read_trace(rt)?;
+    let mut replay = Replay::new(Bench::new(newborn_chip(rt)?));
     let mut out = Text::new(rt.alloc());
-    if let Some(x) = record::record_in(&[2]) {
-        out.push_line(x.len() as u64, x.lines() as u8, &[1, 2])?;
-    }
-    out.push_fault(1)?;
-    out.push_status(0x1234)?;
-    if out.len() > 3 {
+    for _ in 0..u64::MAX {
+        let more = replay.run(trace.as_slice(), &mut out)?;
+        rt.stdout().write_all(out.as_slice())?;
         out.clear();
+        if !more {
+            break;
+        }
     }
-    let _ = out.as_slice();
     Ok(())
+}
+
+fn main(rt: LibcRuntime) -> Result<(), AnyError> {
+    rt.report(replay_trace(&rt))
 }

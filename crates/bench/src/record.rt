@@ -41,7 +41,9 @@ pub fn record_in(rest: &[u8]) -> Option<Record>
 impl Record {
     /// How many bytes the record takes, its kind byte included.
     pub fn len(self) -> usize
-        ensures { λ r. ⌜ r ≡ recordLength self ⌝ }
+        ensures value { λ r. ⌜ r ≡ recordLength self ⌝ }
+        ensures low_bound { λ r. ⌜ 1 ≤ r ⌝ }
+        ensures high_bound { λ r. ⌜ r ≤ 3 ⌝ }
     {
         match self {
             Record::SelectLow => 1,
@@ -52,7 +54,8 @@ impl Record {
 
     /// How many lines the record prints.
     pub fn lines(self) -> usize
-        ensures { λ r. ⌜ r ≡ linesOf self ⌝ }
+        ensures value { λ r. ⌜ r ≡ linesOf self ⌝ }
+        ensures bound { λ r. ⌜ r ≤ 1 ⌝ }
     {
         match self {
             Record::Byte { byte: _ } | Record::SelectLow => 0,

@@ -1,7 +1,7 @@
 // How a frame grows.
 ghost use mathlib.Core.Path.{_≡_};
 ghost use mathlib.Core.List.{_++_, [], _∷_};
-ghost use Prim.Native.Nat.{ℕ, _+_, _<_, _≤_};
+ghost use Prim.Native.Nat.{ℕ, _+_, _*_, _<_, _≤_};
 ghost use lib.ListN.{length, take};
 ghost use Rattle.bench.specs.Clocked.{frameOf, bodies, ByteRun, Clocked};
 use crate::frame::Frame;
@@ -11,6 +11,7 @@ fn clock_into(bytes: &mut [u8; 4096], start: usize, rest: &[u8]) -> usize
     requires { ⌜ start ≤ 4096 ⌝ }
     ensures run { λ r. ⌜ ByteRun r (now (rest .entry)) ⌝ }
     ensures room { λ r. ⌜ start + r ≤ 4096 ⌝ }
+    ensures inside { λ r. ⌜ 2 * r ≤ length (now (rest .entry)) ⌝ }
     ensures after { λ r. ⌜ take (start + r) (now (bytes .exit)) ≡ take start (now (bytes .entry)) ++ bodies r (now (rest .entry)) ⌝ }
 {
     let mut n = 0;

@@ -10,6 +10,7 @@ abbrev pub Inv-loop-n : given.InvT-loop-n
 Inv-loop-n l =
     ByteRun (l .n) (l .rest)
     × (l .start + l .n ≤ 4096)
+    × (2 * l .n ≤ length (l .rest))
     × (length (l .bytes) ≡ 4096)
     × (take (l .start + l .n) (l .bytes) ≡ take (l .start) (l .entry .bytes) ++ bodies (l .n) (l .rest))
 
