@@ -26,6 +26,11 @@ pub still-made : {T E : Type 0} {P Q : T → Type 0} (r : Result T E) → ((x : 
 still-made (Ok x) f h = f x h
 still-made (Err e) f h = h
 
+-- two facts of what a call made, joined
+pub both-made : {T E : Type 0} {P Q R : T → Type 0} (r : Result T E) → ((x : T) → P x → Q x → R x) → made r P → made r Q → made r R
+both-made (Ok x) f h g = f x h g
+both-made (Err e) f h g = h
+
 -- what holds where a call answered Ok
 pub at-ok : {X T E : Type 0} (a b : X) {now : X} (r : Result T E) {x : T} → r ≡ Ok x → now ≡ cond (isOk r) a b → now ≡ a
 at-ok a b r p e = e ∙ cond-true (isOk r) a b (ap isOk p)

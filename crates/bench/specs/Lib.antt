@@ -1,5 +1,6 @@
 pub mod Clocked
 pub mod Gathered
+pub mod Newborn
 pub mod Plays
 pub mod Records
 pub mod Replays

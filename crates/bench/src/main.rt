@@ -1,13 +1,12 @@
 //! Replays a trace from standard input over a newborn FT25H08 of 65,536 FF bytes, and prints what it answers.
 mod bench;
 mod frame;
+mod part;
 mod record;
 mod replay;
 mod text;
 
-use bench::Bench;
-use ft25h08::Ft25h08;
-use ft25h08::Ticks;
+use part::newborn_bench;
 use replay::Replay;
 use std::error::AnyError;
 use std::io::Read;
@@ -16,22 +15,6 @@ use text::Text;
 
 // The trace is read in parts of at most this many bytes.
 const PART: usize = 1_048_576;
-
-fn newborn_chip(rt: &LibcRuntime) -> Result<Ft25h08, AnyError> {
-    let ticks = Ticks {
-        status_write: 2,
-        program: 3,
-        erase_sector: 5,
-        erase_block32: 8,
-        erase_block64: 13,
-        erase_chip: 21,
-    };
-    let array = vec![in rt.alloc(); 0xff; 65_536]?;
-    match Ft25h08::birth_refusal(array.len(), ticks) {
-        Ok(()) => Ok(Ft25h08::new(array, ticks)),
-        Err(_) => Err("no chip has such an array".into()),
-    }
-}
 
 fn read_trace(rt: &LibcRuntime) -> Result<Vec<u8>, AnyError> {
     let mut trace = Vec::new(rt.alloc());
@@ -48,7 +31,7 @@ fn read_trace(rt: &LibcRuntime) -> Result<Vec<u8>, AnyError> {
 
 fn replay_trace(rt: &LibcRuntime) -> Result<(), AnyError> {
     let trace = read_trace(rt)?;
-    let mut replay = Replay::new(Bench::new(newborn_chip(rt)?));
+    let mut replay = Replay::new(newborn_bench(rt.alloc())?);
     let mut out = Text::new(rt.alloc());
     for _ in 0..u64::MAX {
         let more = replay.run(trace.as_slice(), &mut out)?;

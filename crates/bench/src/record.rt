@@ -22,7 +22,7 @@ pub enum Record {
 }
 
 /// The first record of what is left of a trace; none if its kind is unknown or its body is cut off.
-pub fn record_in(rest: &[u8]) -> Option<Record>
+pub(crate) fn record_in(rest: &[u8]) -> Option<Record>
     ensures { λ r. ⌜ r ≡ recordIn (now (rest .entry)) ⌝ }
 {
     match rest {
@@ -40,7 +40,7 @@ pub fn record_in(rest: &[u8]) -> Option<Record>
 
 impl Record {
     /// How many bytes the record takes, its kind byte included.
-    pub fn len(self) -> usize
+    pub(crate) fn len(self) -> usize
         ensures value { λ r. ⌜ r ≡ recordLength self ⌝ }
         ensures low_bound { λ r. ⌜ 1 ≤ r ⌝ }
         ensures high_bound { λ r. ⌜ r ≤ 3 ⌝ }
@@ -53,7 +53,7 @@ impl Record {
     }
 
     /// How many lines the record prints.
-    pub fn lines(self) -> usize
+    pub(crate) fn lines(self) -> usize
         ensures value { λ r. ⌜ r ≡ linesOf self ⌝ }
         ensures bound { λ r. ⌜ r ≤ 1 ⌝ }
     {

@@ -29,7 +29,7 @@ pub enum Activity {
 
 impl Activity {
     /// What a frame meets.
-    pub fn mode(&self) -> Mode
+    pub(crate) fn mode(&self) -> Mode
         ensures { λ r. ⌜ r ≡ modeOf (now (self .entry)) ⌝ }
     {
         match self {

@@ -56,7 +56,7 @@ impl Register {
 
 impl Security {
     /// A newborn chip's: all FF.
-    pub fn new() -> Security
+    pub(crate) fn new() -> Security
         ensures { λ r. ⌜ securityOf r ≡ counted (λ _. 255) 1024 ⌝ }
     {
         Security {
@@ -70,7 +70,7 @@ impl Security {
     }
 
     /// The byte at a security address, where there is one.
-    pub fn byte(&self, at: usize) -> Option<u8>
+    pub(crate) fn byte(&self, at: usize) -> Option<u8>
         ensures { λ r. ⌜ r ≡ securityByte (now (self .entry)) at ⌝ }
     {
         if at < 1024 {
@@ -81,7 +81,7 @@ impl Security {
     }
 
     /// All bytes, in the order of their addresses.
-    pub fn bytes(&self) -> [u8; 1024]
+    pub(crate) fn bytes(&self) -> [u8; 1024]
         ensures { λ r. ⌜ r ≡ securityOf (now (self .entry)) ⌝ }
     {
         let mut bytes = [0; 1024];
@@ -92,7 +92,7 @@ impl Security {
     }
 
     /// ANDs the latch into one register; there are four.
-    pub fn program(&mut self, register: usize, latch: &[u8; 256])
+    pub(crate) fn program(&mut self, register: usize, latch: &[u8; 256])
         ensures { λ _. ⌜ securityOf (now (self .exit)) ≡ changed (register * 256) 256 (programmed (now (latch .entry))) (securityOf (now (self .entry))) ⌝ }
     {
         if register < 4 {
@@ -101,7 +101,7 @@ impl Security {
     }
 
     /// Makes every byte FF.
-    pub fn erase(&mut self)
+    pub(crate) fn erase(&mut self)
         ensures { λ _. ⌜ securityOf (now (self .exit)) ≡ changed 0 1024 erased (securityOf (now (self .entry))) ⌝ }
     {
         for register in 0..4 {
@@ -110,7 +110,7 @@ impl Security {
     }
 
     /// The power fails during the program of one register.
-    pub fn cut_program(&mut self, register: usize, latch: &[u8; 256], junk: &[u8])
+    pub(crate) fn cut_program(&mut self, register: usize, latch: &[u8; 256], junk: &[u8])
         ensures { λ _. ⌜ securityOf (now (self .exit)) ≡ changed (register * 256) 256 (cutWhileProgramming (now (latch .entry)) (now (junk .entry))) (securityOf (now (self .entry))) ⌝ }
     {
         if register < 4 {
@@ -120,7 +120,7 @@ impl Security {
     }
 
     /// The power fails during the erase.
-    pub fn cut_erase(&mut self, junk: &[u8])
+    pub(crate) fn cut_erase(&mut self, junk: &[u8])
         ensures { λ _. ⌜ securityOf (now (self .exit)) ≡ changed 0 1024 (cutWhileErasing (now (junk .entry))) (securityOf (now (self .entry))) ⌝ }
     {
         for register in 0..4 {

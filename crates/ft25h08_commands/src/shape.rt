@@ -70,7 +70,7 @@ fn entry(shapes: &[[Shape; 16]; 16], code: u8) -> Shape
 }
 
 /// The shape that goes with a code.
-pub fn shape_of(code: u8) -> Shape
+pub(crate) fn shape_of(code: u8) -> Shape
     ensures { λ r. ⌜ r ≡ shapeOf code ⌝ }
 {
     entry(&SHAPES, code)
@@ -78,14 +78,14 @@ pub fn shape_of(code: u8) -> Shape
 
 impl Shape {
     /// Whether the code is a command at all.
-    pub fn is_listed(self) -> bool
+    pub(crate) fn is_listed(self) -> bool
         ensures { λ r. ⌜ r ≡ isListed self ⌝ }
     {
         !matches!(self, Shape::Unlisted)
     }
 
     /// Whether a frame of `n` bytes and `odd` further bits has this shape.
-    pub fn fits(self, n: usize, odd: u8) -> bool
+    pub(crate) fn fits(self, n: usize, odd: u8) -> bool
         ensures { λ r. ⌜ r ≡ fits self n odd ⌝ }
     {
         match self {

@@ -88,7 +88,7 @@ fn answer_frame(
 
 impl Bench {
     /// The chip on the bench, with CS# high.
-    pub fn new(chip: Ft25h08) -> Bench
+    pub(crate) fn new(chip: Ft25h08) -> Bench
         ensures { λ r. ⌜ benchOf r ≡ onBench (chipOf chip) ⌝ }
     {
         Bench {
@@ -100,21 +100,21 @@ impl Bench {
     }
 
     /// Whether CS# is low.
-    pub fn is_selected(&self) -> bool
+    pub(crate) fn is_selected(&self) -> bool
         ensures { λ r. ⌜ r ≡ benchOf (now (self .entry)) .selected ⌝ }
     {
         self.selected
     }
 
     /// The chip's status register.
-    pub fn status(&self) -> u16
+    pub(crate) fn status(&self) -> u16
         ensures { λ r. ⌜ r ≡ statusOf (benchOf (now (self .entry)) .chip) ⌝ }
     {
         self.chip.status()
     }
 
     /// Whether a record may come now.
-    pub fn allows(&self, event: Record) -> bool
+    pub(crate) fn allows(&self, event: Record) -> bool
         ensures { λ r. ⌜ r ≡ allowed event (benchOf (now (self .entry))) ⌝ }
     {
         match event {
@@ -125,7 +125,7 @@ impl Bench {
     }
 
     /// Clocks in the byte records at the front of `rest` as long as there is room, and answers how many.
-    pub fn clock(&mut self, rest: &[u8]) -> usize
+    pub(crate) fn clock(&mut self, rest: &[u8]) -> usize
         ensures clocked { λ r. ⌜ Clocked r (now (rest .entry)) (benchOf (now (self .entry)) .frame) (benchOf (now (self .exit)) .frame) ⌝ }
         ensures chip { λ r. ⌜ benchOf (now (self .exit)) .chip ≡ benchOf (now (self .entry)) .chip ⌝ }
         ensures selected { λ r. ⌜ benchOf (now (self .exit)) .selected ≡ benchOf (now (self .entry)) .selected ⌝ }
@@ -134,7 +134,12 @@ impl Bench {
     }
 
     /// Plays a record that may come now, and prints its line.
-    pub fn play(&mut self, event: Record, line: u64, out: &mut Text) -> Result<(), AllocError>
+    pub(crate) fn play(
+        &mut self,
+        event: Record,
+        line: u64,
+        out: &mut Text,
+    ) -> Result<(), AllocError>
         requires { ⌜ allowed event (benchOf (now self)) ≡ true ⌝ }
         ensures { λ r. ⌜ made r (λ _. Played event line (benchOf (now (self .entry))) (benchOf (now (self .exit))) (textOf (now (out .entry))) (textOf (now (out .exit)))) ⌝ }
     {

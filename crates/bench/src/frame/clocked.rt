@@ -24,7 +24,7 @@ fn clock_into(bytes: &mut [u8; 4096], start: usize, rest: &[u8]) -> usize
 
 impl Frame {
     /// A frame of no bytes.
-    pub fn new() -> Frame
+    pub(crate) fn new() -> Frame
         ensures { λ r. ⌜ frameOf r ≡ [] ⌝ }
     {
         Frame {
@@ -34,7 +34,7 @@ impl Frame {
     }
 
     /// How many bytes it has.
-    pub fn len(&self) -> usize
+    pub(crate) fn len(&self) -> usize
         ensures value { λ r. ⌜ r ≡ length (frameOf (now (self .entry))) ⌝ }
         ensures bound { λ r. ⌜ r ≤ 4096 ⌝ }
     {
@@ -42,21 +42,21 @@ impl Frame {
     }
 
     /// Its bytes.
-    pub fn as_slice(&self) -> &[u8]
+    pub(crate) fn as_slice(&self) -> &[u8]
         ensures { λ r. ⌜ now r ≡ frameOf (now (self .entry)) ⌝ }
     {
         &self.bytes[0..self.len]
     }
 
     /// Begins again.
-    pub fn clear(&mut self)
+    pub(crate) fn clear(&mut self)
         ensures { λ _. ⌜ frameOf (now (self .exit)) ≡ [] ⌝ }
     {
         self.len = 0;
     }
 
     /// One byte more.
-    pub fn push(&mut self, byte: u8)
+    pub(crate) fn push(&mut self, byte: u8)
         requires { ⌜ length (frameOf (now self)) < 4096 ⌝ }
         ensures { λ _. ⌜ frameOf (now (self .exit)) ≡ frameOf (now (self .entry)) ++ byte ∷ [] ⌝ }
     {
@@ -65,7 +65,7 @@ impl Frame {
     }
 
     /// Clocks in the byte records at the front of `rest` as long as there is room, and answers how many.
-    pub fn clock(&mut self, rest: &[u8]) -> usize
+    pub(crate) fn clock(&mut self, rest: &[u8]) -> usize
         ensures { λ r. ⌜ Clocked r (now (rest .entry)) (frameOf (now (self .entry))) (frameOf (now (self .exit))) ⌝ }
     {
         let n = clock_into(&mut self.bytes, self.len, rest);

@@ -29,7 +29,7 @@ fn rest_of(trace: &[u8], offset: usize) -> &[u8]
 
 impl Replay {
     /// A replay from the first record on.
-    pub fn new(bench: Bench) -> Replay
+    pub(crate) fn new(bench: Bench) -> Replay
         ensures { λ r. ⌜ replayOf r ≡ begins (benchOf bench) ⌝ }
     {
         Replay {
@@ -40,7 +40,7 @@ impl Replay {
     }
 
     /// Goes on with the trace until a piece of text is gathered, and answers whether there is more to come.
-    pub fn run(&mut self, trace: &[u8], out: &mut Text) -> Result<bool, AllocError>
+    pub(crate) fn run(&mut self, trace: &[u8], out: &mut Text) -> Result<bool, AllocError>
         ensures { λ r. ⌜ made r (λ more. Piece (now (trace .entry)) (replayOf (now (self .entry))) (replayOf (now (self .exit))) (textOf (now (out .entry))) (textOf (now (out .exit))) more) ⌝ }
     {
         while out.len() < PIECE {

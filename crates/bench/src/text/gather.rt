@@ -18,7 +18,7 @@ const GROWTH: usize = 131_072;
 
 impl Text {
     /// No text.
-    pub fn new(heap: Global) -> Text
+    pub(crate) fn new(heap: Global) -> Text
         ensures { λ r. ⌜ textOf r ≡ [] ⌝ }
     {
         Text {
@@ -28,21 +28,21 @@ impl Text {
     }
 
     /// The text itself.
-    pub fn as_slice(&self) -> &[u8]
+    pub(crate) fn as_slice(&self) -> &[u8]
         ensures { λ r. ⌜ now r ≡ textOf (now (self .entry)) ⌝ }
     {
         &self.buffer.as_slice()[0..self.len]
     }
 
     /// How many bytes it has.
-    pub fn len(&self) -> usize
+    pub(crate) fn len(&self) -> usize
         ensures { λ r. ⌜ r ≡ length (textOf (now (self .entry))) ⌝ }
     {
         self.len
     }
 
     /// Forgets the text.
-    pub fn clear(&mut self)
+    pub(crate) fn clear(&mut self)
         ensures { λ _. ⌜ textOf (now (self .exit)) ≡ [] ⌝ }
     {
         self.len = 0;
@@ -64,7 +64,7 @@ impl Text {
     }
 
     /// One byte more.
-    pub fn push(&mut self, byte: u8) -> Result<(), AllocError>
+    pub(crate) fn push(&mut self, byte: u8) -> Result<(), AllocError>
         ensures { λ r. ⌜ made r (λ _. textOf (now (self .exit)) ≡ textOf (now (self .entry)) ++ byte ∷ []) ⌝ }
     {
         self.reserve(1)?;
@@ -74,7 +74,7 @@ impl Text {
     }
 
     /// Bytes as they are.
-    pub fn push_bytes(&mut self, bytes: &[u8]) -> Result<(), AllocError>
+    pub(crate) fn push_bytes(&mut self, bytes: &[u8]) -> Result<(), AllocError>
         ensures { λ r. ⌜ made r (λ _. textOf (now (self .exit)) ≡ textOf (now (self .entry)) ++ now (bytes .entry)) ⌝ }
     {
         self.reserve(bytes.len())?;
@@ -87,7 +87,7 @@ impl Text {
     }
 
     /// Each byte as a pair of hexadecimal digits.
-    pub fn push_hex(&mut self, bytes: &[u8]) -> Result<(), AllocError>
+    pub(crate) fn push_hex(&mut self, bytes: &[u8]) -> Result<(), AllocError>
         ensures { λ r. ⌜ made r (λ _. textOf (now (self .exit)) ≡ textOf (now (self .entry)) ++ hexOf (now (bytes .entry))) ⌝ }
     {
         self.reserve(2 * bytes.len())?;
@@ -98,7 +98,7 @@ impl Text {
     }
 
     /// A number without leading zeros.
-    pub fn push_decimal(&mut self, n: u64) -> Result<(), AllocError>
+    pub(crate) fn push_decimal(&mut self, n: u64) -> Result<(), AllocError>
         ensures { λ r. ⌜ made r (λ _. textOf (now (self .exit)) ≡ textOf (now (self .entry)) ++ decimal n) ⌝ }
     {
         if n < 10 {

@@ -12,7 +12,7 @@ fn hex_digit(n: u8) -> u8
 }
 
 /// Writes each byte as a pair of lowercase digits.
-pub fn write_hex(text: &mut [u8], bytes: &[u8])
+pub(crate) fn write_hex(text: &mut [u8], bytes: &[u8])
     requires { ⌜ length (now text) ≡ 2 * length (now bytes) ⌝ }
     ensures { λ _. ⌜ now (text .exit) ≡ hexOf (now (bytes .entry)) ⌝ }
 {

@@ -9,7 +9,12 @@ use std::alloc::AllocError;
 
 impl Text {
     /// A line: its number, the number of the answer, and the bytes of the answer.
-    pub fn push_line(&mut self, line: u64, number: u8, bytes: &[u8]) -> Result<(), AllocError>
+    pub(crate) fn push_line(
+        &mut self,
+        line: u64,
+        number: u8,
+        bytes: &[u8],
+    ) -> Result<(), AllocError>
         ensures { λ r. ⌜ made r (λ _. textOf (now (self .exit)) ≡ textOf (now (self .entry)) ++ lineText line number (now (bytes .entry))) ⌝ }
     {
         self.push_decimal(line)?;
@@ -31,7 +36,7 @@ impl Text {
     }
 
     /// The last line of a good trace.
-    pub fn push_status(&mut self, status: u16) -> Result<(), AllocError>
+    pub(crate) fn push_status(&mut self, status: u16) -> Result<(), AllocError>
         ensures { λ r. ⌜ made r (λ _. textOf (now (self .exit)) ≡ textOf (now (self .entry)) ++ statusText status) ⌝ }
     {
         self.push_bytes(b"status ")?;
@@ -40,7 +45,7 @@ impl Text {
     }
 
     /// The last line of a trace with a fault.
-    pub fn push_fault(&mut self, offset: u64) -> Result<(), AllocError>
+    pub(crate) fn push_fault(&mut self, offset: u64) -> Result<(), AllocError>
         ensures { λ r. ⌜ made r (λ _. textOf (now (self .exit)) ≡ textOf (now (self .entry)) ++ faultText offset) ⌝ }
     {
         self.push_bytes(b"trace 13 at ")?;
