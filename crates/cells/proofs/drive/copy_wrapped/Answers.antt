@@ -13,7 +13,7 @@ pub loop-pos-again : need.loop-pos-again
 loop-pos-again c =
     let cells = c .args .cells .now in
     let pos = c .loop-pos .pos in
-    let m = c .min-len .result in
+    let m = c .stretch-len .result in
     let start = (c .args .at + pos) % length cells in
     let b = mod-below (c .args .at + pos) (length cells) (c .pre .some) in (
       omega arith,

@@ -40,10 +40,17 @@ loop-i-holds c = (
 )
 
 pub loop-i-again : need.loop-i-again
-loop-i-again c = (
-  simp length-set (c .loop-i .inv .0),
-  λ o h. more (c .loop-i .latch) (c .args .bytes .now) (c .args .at) (c .loop-i .i) o (c .loop-i .inv .0) (omega arith) ∙ c .loop-i .inv .1 o h,
-)
+loop-i-again c =
+    let latch = c .loop-i .latch in
+    let bytes = c .args .bytes .now in
+    let at = c .args .at in
+    let i = c .loop-i .i in (
+      simp length-set (c .loop-i .inv .0),
+      λ o h.
+          ap (λ (k : ℕ). latchByte (at + (i + 1)) (drop (i + 1) bytes) o (getD (set latch k (getD bytes i 0)) o 0)) (c .offset-of .ensures .value)
+          ∙ more latch bytes at i o (c .loop-i .inv .0) (omega arith)
+          ∙ c .loop-i .inv .1 o h,
+    )
 
 pub returns : need.returns
 unfolding latched
