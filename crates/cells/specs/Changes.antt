@@ -1,6 +1,6 @@
 -- What each kind of change makes of one cell, from its address and its old byte.
 use mathlib.Core.List.{List}
-use Prim.Native.Nat.{ℕ, _+_, _%_}
+use Prim.Native.Nat.{ℕ, _+_, _-_, _%_}
 use lib.Bits.{bitAnd, bitOr}
 use lib.ListN.{getD}
 use Rattle.cells.specs.Bytes.{wrapped}
@@ -8,6 +8,10 @@ use Rattle.cells.specs.Bytes.{wrapped}
 -- a program turns ones into zeros and never a zero into a one: old AND latch
 abbrev pub programmed : List ℕ → ℕ → ℕ → ℕ
 programmed latch a old = bitAnd old (getD latch (a % 256) 0)
+
+-- the same for bytes at a place: the byte for the place itself comes first
+abbrev pub anded : ℕ → List ℕ → ℕ → ℕ → ℕ
+anded at new a old = bitAnd old (getD new (a - at) 0)
 
 -- an erase brings every one back
 abbrev pub erased : ℕ → ℕ → ℕ

@@ -12,3 +12,4 @@ pub use range::cut_erase;
 pub use range::cut_program;
 pub use range::erase;
 pub use range::program;
+pub use range::program_bytes;

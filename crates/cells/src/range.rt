@@ -3,7 +3,7 @@ ghost use mathlib.Core.Path.{_≡_};
 ghost use Prim.Native.Nat.{ℕ, _+_, min};
 ghost use lib.ListN.{length, getD};
 ghost use Rattle.cells.specs.Bytes.{changed, wrapped};
-ghost use Rattle.cells.specs.Changes.{programmed, erased, cutWhileProgramming, cutWhileErasing, from};
+ghost use Rattle.cells.specs.Changes.{programmed, anded, erased, cutWhileProgramming, cutWhileErasing, from};
 
 // Where a range of `len` cells from `first` on ends among `size` cells.
 fn end_of(first: usize, len: usize, size: usize) -> usize
@@ -29,6 +29,15 @@ pub fn program(cells: &mut [u8], first: usize, latch: &[u8; 256])
 {
     for a in first..end_of(first, 256, cells.len()) {
         cells[a] &= latch[a % 256];
+    }
+}
+
+/// Bytes are programmed at a place: each is ANDed into its cell.
+pub fn program_bytes(cells: &mut [u8], at: usize, new: &[u8])
+    ensures after { λ _. ⌜ now (cells .exit) ≡ changed at (length (now (new .entry))) (anded at (now (new .entry))) (now (cells .entry)) ⌝ }
+{
+    for a in at..end_of(at, new.len(), cells.len()) {
+        cells[a] &= new[a - at];
     }
 }
 

@@ -1,7 +1,8 @@
 // The protection table: 32 rows, chosen by CMP and BP3 to BP0, each a first address and an end.
 ghost use mathlib.Core.Path.{_≡_};
 ghost use mathlib.Core.Bool.{true};
-ghost use Prim.Native.Nat.{ℕ, _+_, _<_, _≤_};
+ghost use Prim.Native.Nat.{ℕ, _+_, _<_, min, max};
+ghost use lib.Dec.{ltb};
 ghost use lib.ListN.{length};
 ghost use Rattle.ft25h08_commands.specs.Status.{rowNumber};
 ghost use Rattle.ft25h08_commands.specs.Protection.{RowOf, every, rightRow, protectedBy, anyIn};
@@ -98,13 +99,19 @@ pub fn protected_span(settings: Settings) -> Span
     row_in(&ROWS, settings.row())
 }
 
+// Whether one of the `len` addresses from `first` on lies in the span.
+fn shares(span: Span, first: u32, len: u32) -> bool
+    ensures { λ r. ⌜ r ≡ ltb (max (span .first) first) (min (first + len) (span .end)) ⌝ }
+{
+    let end = first as u64 + len as u64;
+    let from = span.first.max(first);
+    let to = end.min(span.end as u64);
+    (from as u64) < to
+}
+
 /// Whether the settings protect one of the `len` bytes from `first` on.
 pub fn any_protected(settings: Settings, first: u32, len: u32) -> bool
     ensures { λ r. ⌜ r ≡ anyIn (protectedBy settings) first len ⌝ }
 {
-    let row = protected_span(settings);
-    let end = first as u64 + len as u64;
-    let from = row.first.max(first);
-    let to = end.min(row.end as u64);
-    (from as u64) < to
+    shares(protected_span(settings), first, len)
 }
