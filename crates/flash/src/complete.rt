@@ -32,8 +32,8 @@ pub fn erase_and_wait<F: NorFlash>(flash: &mut F, sector: usize) -> Result<u32, 
 {
     match flash.erase_sector(sector) {
         Ok(mut change) => {
-            let ticks = wait(flash, &mut change);
-            Ok(ticks)
+            let spent = wait(flash, &mut change);
+            Ok(spent)
         }
         Err(refusal) => Err(refusal),
     }

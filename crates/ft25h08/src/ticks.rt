@@ -1,5 +1,6 @@
 // How long each kind of change takes.
 ghost use mathlib.Core.Path.{_≡_};
+ghost use lib.Dec.{ltb};
 ghost use Rattle.ft25h08.specs.Counts.{allCount};
 
 /// The ticks that each kind of change takes. A tick is the model's unit of time.
@@ -15,16 +16,22 @@ pub struct Ticks {
     pub erase_chip: u16,
 }
 
+fn is_count(n: u16) -> bool
+    ensures { λ r. ⌜ r ≡ ltb 0 n ⌝ }
+{
+    n > 0
+}
+
 impl Ticks {
     /// Whether each count is at least 1.
     pub fn all_count(self) -> bool
         ensures { λ r. ⌜ r ≡ allCount self ⌝ }
     {
-        self.status_write > 0
-            && self.program > 0
-            && self.erase_sector > 0
-            && self.erase_block32 > 0
-            && self.erase_block64 > 0
-            && self.erase_chip > 0
+        is_count(self.status_write)
+            && is_count(self.program)
+            && is_count(self.erase_sector)
+            && is_count(self.erase_block32)
+            && is_count(self.erase_block64)
+            && is_count(self.erase_chip)
     }
 }
