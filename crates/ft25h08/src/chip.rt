@@ -12,6 +12,7 @@ use ft25h08_commands::Settings;
 
 mod birth;
 mod frame;
+mod parts;
 mod power_cut;
 mod queries;
 mod tick;

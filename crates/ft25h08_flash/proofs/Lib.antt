@@ -1,0 +1,4 @@
+pub mod Framing
+pub mod Sending
+pub mod Starting
+pub mod Taking

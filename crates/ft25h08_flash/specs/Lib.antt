@@ -1,0 +1,2 @@
+pub mod ChipFlash
+pub mod Taken
