@@ -5,6 +5,7 @@ pub mod census;
 pub mod chip;
 pub mod compare;
 pub mod hex;
+pub mod images;
 pub mod random;
 pub mod recorder;
 pub mod replay;

@@ -6,12 +6,13 @@ use std::process::ExitCode;
 
 use flash_model::census::Census;
 use flash_model::compare::{compare, Mismatch};
+use flash_model::images::print_images;
 use flash_model::random::mixed::{self, Lock};
 use flash_model::random::{extreme, malformed};
 use flash_model::replay::replay;
 use flash_model::tour::long_trace;
 
-const USAGE: &str = "usage: model replay | census | long | \
+const USAGE: &str = "usage: model replay | census | long | images | \
     trace SEED SIZE | malformed SEED SIZE | \
     reads SEED SIZE | short SEED SIZE | erases SEED SIZE | \
     compare BENCH COUNT SEED FOLDER";
@@ -35,6 +36,7 @@ fn run(arguments: &[&str]) -> Result<ExitCode, String> {
     match *arguments {
         ["replay"] => replay_input()?,
         ["census"] => print(Census::of(&input()?).to_string().as_bytes())?,
+        ["images"] => print_images(&mut io::stdout().lock()).map_err(|error| error.to_string())?,
         ["long"] => print(&long_trace())?,
         ["trace", seed, size] => print(&mixed::trace(
             number(seed)?,
