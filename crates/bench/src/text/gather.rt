@@ -97,14 +97,17 @@ impl Text {
         Ok(())
     }
 
-    /// A number without leading zeros.
+    /// A number without leading zeros, two digits at a time.
     pub(crate) fn push_decimal(&mut self, n: u64) -> Result<(), AllocError>
         ensures { λ r. ⌜ made r (λ _. textOf (now (self .exit)) ≡ textOf (now (self .entry)) ++ decimal n) ⌝ }
     {
         if n < 10 {
             return self.push(b'0' + n as u8);
         }
-        self.push_decimal(n / 10)?;
-        self.push(b'0' + (n % 10) as u8)
+        if n < 100 {
+            return self.push_bytes(&[b'0' + (n / 10) as u8, b'0' + (n % 10) as u8]);
+        }
+        self.push_decimal(n / 100)?;
+        self.push_bytes(&[b'0' + (n / 10 % 10) as u8, b'0' + (n % 10) as u8])
     }
 }
