@@ -4,20 +4,13 @@
 use std::fmt;
 use std::io::{self, Write};
 
-use crate::chip::{Chip, TickCounts};
+use crate::chip::Chip;
+use crate::replay::BENCH_TICKS;
 
 const SECTOR: usize = 4096;
 const PAGE: usize = 256;
 const CAPACITY: usize = 131_072;
 const PROTECTED_SECTORS: usize = 16;
-const TICK_COUNTS: TickCounts = TickCounts {
-    status_write: 2,
-    program: 3,
-    sector_erase: 5,
-    half_block_erase: 8,
-    block_erase: 13,
-    chip_erase: 21,
-};
 
 #[derive(Clone, Copy)]
 enum Refusal {
@@ -265,7 +258,7 @@ pub fn print_images(out: &mut impl Write) -> io::Result<()> {
     };
     print("image", &mut memory, out)?;
     let mut on_chip = OnChip {
-        chip: Chip::new(bytes, TICK_COUNTS).expect("a chip is born"),
+        chip: Chip::new(bytes, BENCH_TICKS).expect("a chip is born"),
     };
     on_chip.send(&[0x06]);
     on_chip.send(&[0x01, 0x04, 0x40]);

@@ -11,17 +11,19 @@ use crate::trace::{Malformed, Step, TraceReader};
 /// The refusal number of a malformed trace.
 const MALFORMED: u8 = 13;
 
+/// The short times of every part that stands on the bench.
+pub const BENCH_TICKS: TickCounts = TickCounts {
+    status_write: 2,
+    program: 3,
+    sector_erase: 5,
+    half_block_erase: 8,
+    block_erase: 13,
+    chip_erase: 21,
+};
+
 /// The part on the bench: the smallest array, all FF, with short times.
 pub fn bench_part() -> Chip {
-    let tick_counts = TickCounts {
-        status_write: 2,
-        program: 3,
-        sector_erase: 5,
-        half_block_erase: 8,
-        block_erase: 13,
-        chip_erase: 21,
-    };
-    Chip::new(vec![0xFF; 0x1_0000], tick_counts).expect("the bench part is a valid part")
+    Chip::new(vec![0xFF; 0x1_0000], BENCH_TICKS).expect("the bench part is a valid part")
 }
 
 /// Writes the lines of a trace: one for each step, then the status, or the

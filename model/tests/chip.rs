@@ -2,24 +2,15 @@
 
 use flash_model::chip::command::{Command, CODES};
 use flash_model::chip::refusal::Refusal;
-use flash_model::chip::{Chip, TickCounts, ARRAY_LENGTHS};
+use flash_model::chip::{Chip, ARRAY_LENGTHS};
 use flash_model::hex;
-use flash_model::replay::bench_part;
+use flash_model::replay::{bench_part, BENCH_TICKS};
 
 const MEBIBYTE: usize = 0x10_0000;
 
-const TICKS: TickCounts = TickCounts {
-    status_write: 2,
-    program: 3,
-    sector_erase: 5,
-    half_block_erase: 8,
-    block_erase: 13,
-    chip_erase: 21,
-};
-
 /// A part of the full length whose byte at each address is given.
 fn large_part(byte_at: impl Fn(usize) -> u8) -> Chip {
-    Chip::new((0..MEBIBYTE).map(byte_at).collect(), TICKS).unwrap()
+    Chip::new((0..MEBIBYTE).map(byte_at).collect(), BENCH_TICKS).unwrap()
 }
 
 /// Sends a frame written in hexadecimal and gives its answer bytes.
@@ -58,14 +49,14 @@ fn change(chip: &mut Chip, frame: &str, ticks: u16) {
 #[test]
 fn birth_needs_a_known_length_and_counts_above_zero() {
     for length in ARRAY_LENGTHS {
-        assert!(Chip::new(vec![0; length], TICKS).is_ok());
+        assert!(Chip::new(vec![0; length], BENCH_TICKS).is_ok());
     }
     for length in [0, 1, 0xFFFF, 0x1_0001, 0x3_0000, 0x20_0000] {
-        let refused = Chip::new(vec![0; length], TICKS);
+        let refused = Chip::new(vec![0; length], BENCH_TICKS);
         assert_eq!(refused, Err(Refusal::BadArgument));
     }
     for zeroed in 0..6 {
-        let mut counts = TICKS;
+        let mut counts = BENCH_TICKS;
         let count = match zeroed {
             0 => &mut counts.status_write,
             1 => &mut counts.program,
@@ -120,7 +111,7 @@ fn the_status_shows_a_running_program() {
 
 #[test]
 fn a_block_erase_takes_its_address_modulo_the_array() {
-    let mut chip = Chip::new(vec![0x00; 0x1_0000], TICKS).unwrap();
+    let mut chip = Chip::new(vec![0x00; 0x1_0000], BENCH_TICKS).unwrap();
     send(&mut chip, "06").unwrap();
     send(&mut chip, "D8 012345").unwrap();
     chip.ticks(12);
@@ -331,7 +322,7 @@ fn every_row_protects_its_blocks_and_no_others() {
     for length in ARRAY_LENGTHS {
         for (complement, rows) in ROWS.iter().enumerate() {
             for (block_protect, row) in rows.iter().enumerate() {
-                let mut chip = Chip::new(vec![0xFF; length], TICKS).unwrap();
+                let mut chip = Chip::new(vec![0xFF; length], BENCH_TICKS).unwrap();
                 let write = format!("01 {:02X} {:02X}", block_protect << 2, complement << 6);
                 change(&mut chip, &write, 2);
                 send(&mut chip, "06").unwrap();
