@@ -1,4 +1,6 @@
 //! Replays a trace from standard input over a newborn FT25H08 of 65,536 FF bytes, and prints what it answers.
+#![tactic(auto)]
+
 mod bench;
 mod frame;
 mod part;

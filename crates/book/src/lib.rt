@@ -1,4 +1,6 @@
 //! A book: rows of one kind in the slots of an area of a flash.
+#![tactic(auto)]
+
 mod area;
 mod refusal;
 

@@ -1,4 +1,6 @@
 //! The field program: bytes and calibration rows into flash images.
+#![tactic(auto)]
+
 mod complaint;
 mod files;
 mod help;
@@ -16,6 +18,7 @@ use putting::{put_reflector, put_temperature};
 use reading::{get, list};
 use rows::{Reflector, Temperature};
 use std::env;
+use std::process::ExitCode;
 use story::tell_story;
 use write::write;
 
@@ -81,12 +84,12 @@ fn run(rt: &HostRuntime) -> Result<(), Complaint> {
     run_words(rt, words.as_slice())
 }
 
-fn main(rt: HostRuntime) -> Result<(), Complaint> {
+fn main(rt: HostRuntime) -> ExitCode {
     match run(&rt) {
-        Ok(()) => Ok(()),
+        Ok(()) => ExitCode::SUCCESS,
         Err(complaint) => {
             let _ = eprintln!(rt; "calibrate: {complaint}");
-            Err(complaint)
+            ExitCode::FAILURE
         }
     }
 }

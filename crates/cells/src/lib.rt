@@ -1,5 +1,7 @@
 //! What happens to ranges of flash bytes: a page program, an erase, what a power cut leaves of each,
 //! the page latch, and the bytes that a chip drives while it is read. No fact of a particular chip is here.
+#![tactic(auto)]
+
 mod drive;
 mod latch;
 mod range;

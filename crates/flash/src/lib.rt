@@ -1,5 +1,7 @@
 //! One flash interface: a flash that can be read, a flash that can be written, and the mark of a change under way.
 //! Behind it stand an image in memory and a file image.
+#![tactic(auto)]
+
 mod complete;
 mod file;
 mod image;

@@ -48,8 +48,8 @@ register_changed rs r new h g four lt whole is fits =
     ])
 
 -- there is no fifth register: a change there changes nothing
-pub no_register : (s : Security) (r : ℕ) (g : ℕ → ℕ → ℕ) → 4 ≤ r → security_of s ≡ changed (r * 256) 256 g (security_of s)
-no_register s r g h =
+pub no_fifth_register : (s : Security) (r : ℕ) (g : ℕ → ℕ → ℕ) → 4 ≤ r → security_of s ≡ changed (r * 256) 256 g (security_of s)
+no_fifth_register s r g h =
     let l = length_security s in
     changed_all (r * 256) 256 g (security_of s) (security_of s) refl (λ a k. grind (arith, nat_tests))
 

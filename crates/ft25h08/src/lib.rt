@@ -1,4 +1,6 @@
 //! One FT25H08 serial NOR flash chip: frames, ticks, the WP# pin and power cuts.
+#![tactic(auto)]
+
 mod activity;
 mod chip;
 mod refusals;

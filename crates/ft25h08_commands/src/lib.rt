@@ -1,5 +1,7 @@
 //! The commands of the FT25H08: the shape of each frame, the protection table, the status register,
 //! what a frame asks for, and whether it is accepted.
+#![tactic(auto)]
+
 mod admission;
 mod capacity;
 mod command;

@@ -1,4 +1,6 @@
 //! Runs one script over an image in memory and over an FT25H08 taken as a flash, and prints what each answers.
+#![tactic(auto)]
+
 mod outcome;
 mod play;
 mod script;

@@ -1,5 +1,7 @@
 //! Numbers as people type them on a command line, read exactly: whole numbers, addresses, and numbers with a point in
 //! tenths or hundredths.
+#![tactic(auto)]
+
 mod digits;
 mod fixed;
 mod whole;

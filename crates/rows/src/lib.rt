@@ -1,5 +1,7 @@
 //! Rows: one byte of kind, then a body whose length the kind fixes. A kind of row shows that reading what a row
 //! writes gives that row. Here are the temperature row and the reflector row.
+#![tactic(auto)]
+
 mod law;
 mod limits;
 mod reflector;

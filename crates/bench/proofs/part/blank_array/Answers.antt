@@ -10,4 +10,4 @@ filled v n is a h = ap (λ (xs : List ℕ). get_or xs a 0) is ∙ get_or-replica
 
 pub returns : goal.returns
 returns c =
-    both_made c.vec.result (λ v whole is. record { whole = whole.1; erased = filled v 65536 (is (λ y h. h)) }) c.vec.ensures.made c.vec.ensures.exact
+    both_made c.vec.result (λ v whole is. record { whole = whole; erased = filled v 65536 (is (λ y h. h)) }) c.vec.ensures.len c.vec.ensures.items_if_clones_equal

@@ -5,4 +5,4 @@ use Rattle.bench.proofs.part.newborn_bench.Goals as goal
 
 pub returns-in-Ok : goal.returns-in-Ok
 returns-in-Ok c =
-    record { array = c.in-ok-array.array; blank = c.in-ok-array.ensures; born = c.new-in-Ok.ensures ∙ ap (λ (x : Chip). on_bench x) c.new.ensures }
+    record { array = c.in_ok-array.array; blank = c.in_ok-array.ensures; born = c.new-in-Ok.ensures ∙ ap (λ (x : Chip). on_bench x) c.new.ensures }

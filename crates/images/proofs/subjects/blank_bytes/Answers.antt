@@ -8,4 +8,4 @@ weaker (Err e) f h = h
 
 pub returns : goal.returns
 unfolding blank
-returns c = weaker c.vec.result (λ v is. is (λ y h. h)) c.vec.ensures.exact
+returns c = weaker c.vec.result (λ v is. is (λ y h. h)) c.vec.ensures.items_if_clones_equal

@@ -51,16 +51,16 @@ put_in_page-more-requires g c =
           ∙ ap (λ (xs : List ℕ). any_in (differs_at xs (placed (at + pos) (take n (drop pos bytes)) xs)) (at + pos) (length (take n (drop pos bytes)))) (sym held);
     }
 
-pub overflow-add-programs : goal.overflow-add-programs
-overflow-add-programs g c =
+pub overflow_add-programs : goal.overflow_add-programs
+overflow_add-programs g c =
     let sound = g.met.F.NorFlash.sound c.args.flash.now in
     let sound-here = g.met.F.NorFlash.sound c.loop-pos.flash in
     let first = programs_most _ _ _ c.loop-pos.invariant.0.count in
     let more = programs_most _ _ _ (made_programs _ _ _ _ _ _ c.put_in_page-more.ensures) in
     omega arith
 
-pub overflow-add-ticks : goal.overflow-add-ticks
-overflow-add-ticks g c =
+pub overflow_add-ticks : goal.overflow_add-ticks
+overflow_add-ticks g c =
     let m = g.F.NorFlash.meaning c.args.flash.now in
     let sound = g.met.F.NorFlash.sound c.args.flash.now in
     let here = g.F.NorFlash.meaning c.loop-pos.flash in

@@ -32,4 +32,4 @@ returns g c =
     let after = g.F.NorFlash.meaning c.program.new.flash in
     subst (λ (cost : ℕ × ℕ). Made new m after (cost.0, 0, cost.1)) (sym c.program.ensures.cost)
     (made_falling new m after 1 m.program_ticks c.requires.falls (sym (once ∙ ap (λ (b : Bool). cond {A = ℕ} b 1 0) some)) (omega arith)
-    (c.program.ensures.after ∙ ap (λ (xs : List ℕ). holding xs 1 0 m) (anded_places at part m.bytes (λ k. let h = c.type-inv.part k in omega arith) c.requires.falls)))
+    (c.program.ensures.after ∙ ap (λ (xs : List ℕ). holding xs 1 0 m) (anded_places at part m.bytes (λ k. let h = c.type_inv.part k in omega arith) c.requires.falls)))

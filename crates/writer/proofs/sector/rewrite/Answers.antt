@@ -48,8 +48,8 @@ program_pages-programs-requires g c =
           ∙ sym (ap (λ (xs : List ℕ). get_or xs (sector * 4096 + k) 0) held ∙ blanked_in sector m.bytes (sector * 4096 + k) (omega arith) (omega arith) (omega arith));
     }
 
-pub overflow-add-result : goal.overflow-add-result
-overflow-add-result g c =
+pub overflow_add-result : goal.overflow_add-result
+overflow_add-result g c =
     let m = g.F.NorFlash.meaning c.args.flash.now in
     let sound = g.met.F.NorFlash.sound c.args.flash.now in
     let here = g.F.NorFlash.meaning c.erase-erases.new.flash in

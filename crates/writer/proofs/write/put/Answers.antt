@@ -13,7 +13,7 @@ write_sectors-requires g c =
       long = search rules;
       ready = search rules;
       within = search rules;
-      free = λ sector h. none_first (is_locked m (placed c.args.at c.args.bytes.now m.bytes)) 0 (length m.marks) (sym c.in-default.ensures) sector (omega arith) (omega arith);
+      free = λ sector h. none_first (is_locked m (placed c.args.at c.args.bytes.now m.bytes)) 0 (length m.marks) (sym c.in_default.ensures) sector (omega arith) (omega arith);
     }
 
 pub returns : goal.returns

@@ -52,24 +52,24 @@ put_in_sector-p-requires g c =
           ∙ c.requires.free sector (omega arith);
     }
 
-pub overflow-add-programs : goal.overflow-add-programs
-overflow-add-programs g c =
+pub overflow_add-programs : goal.overflow_add-programs
+overflow_add-programs g c =
     let sound = g.met.F.NorFlash.sound c.args.flash.now in
     let sound-here = g.met.F.NorFlash.sound c.loop-pos.flash in
     let first = programs_most _ _ _ c.loop-pos.invariant.0.programmed in
     let more = programs_most _ _ _ (made_programs _ _ _ _ _ _ c.put_in_sector-p.ensures) in
     omega arith
 
-pub overflow-add-erases : goal.overflow-add-erases
-overflow-add-erases g c =
+pub overflow_add-erases : goal.overflow_add-erases
+overflow_add-erases g c =
     let sound = g.met.F.NorFlash.sound c.args.flash.now in
     let sound-here = g.met.F.NorFlash.sound c.loop-pos.flash in
     let first = erases_most _ _ _ c.loop-pos.invariant.0.erased in
     let more = erases_most _ _ _ (made_erases _ _ _ _ _ _ c.put_in_sector-p.ensures) in
     omega arith
 
-pub overflow-add-ticks : goal.overflow-add-ticks
-overflow-add-ticks g c =
+pub overflow_add-ticks : goal.overflow_add-ticks
+overflow_add-ticks g c =
     let m = g.F.NorFlash.meaning c.args.flash.now in
     let sound = g.met.F.NorFlash.sound c.args.flash.now in
     let here = g.F.NorFlash.meaning c.loop-pos.flash in

@@ -6,8 +6,8 @@ use Rattle.bench.proofs.Replaying.{clocked_owes}
 use Rattle.bench.proofs.replay.Replay.clock.Goals as goal
 
 -- the records lie inside the trace
-pub overflow-add-self : goal.overflow-add-self
-overflow-add-self c =
+pub overflow_add-self : goal.overflow_add-self
+overflow_add-self c =
     let inside = c.clock-n.ensures.clocked.inside in
     let l : length c.rest_of.result.now ≡ length c.args.trace.now - c.args.self.now.offset = ap length c.rest_of.ensures ∙ length-drop c.args.self.now.offset c.args.trace.now in
     omega arith

@@ -16,11 +16,11 @@ loop-self-preserved c =
     let y = text_of c.loop-self.out in
     let z = text_of c.step.new.out in
     join_pieces true trace (replay_of c.args.self.now) now-at then_at x y z c.loop-self.invariant
-    (subst (λ (more : Bool). Piece trace now-at then_at y z more) c.if-not-branch.false c.in-ok-step.ensures.piece)
+    (subst (λ (more : Bool). Piece trace now-at then_at y z more) c.if-not-branch.false c.in_ok-step.ensures.piece)
 
 pub loop-self-smaller : goal.loop-self-smaller
 loop-self-smaller c =
-    let f = subst (λ (more : Bool). Further (length c.args.trace.now) c.loop-self.self.offset c.step.new.self.offset more) c.if-not-branch.false c.in-ok-step.ensures.further in
+    let f = subst (λ (more : Bool). Further (length c.args.trace.now) c.loop-self.self.offset c.step.new.self.offset more) c.if-not-branch.false c.in_ok-step.ensures.further in
     let g = f.0 in
     let h = f.1 in
     omega arith
@@ -34,4 +34,4 @@ returns-then-not-branch c =
     let y = text_of c.loop-self.out in
     let z = text_of c.step.new.out in
     join_pieces false trace (replay_of c.args.self.now) now-at then_at x y z c.loop-self.invariant
-    (subst (λ (more : Bool). Piece trace now-at then_at y z more) c.if-not-branch.true c.in-ok-step.ensures.piece)
+    (subst (λ (more : Bool). Piece trace now-at then_at y z more) c.if-not-branch.true c.in_ok-step.ensures.piece)

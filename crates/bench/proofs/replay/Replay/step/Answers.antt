@@ -14,17 +14,17 @@ returns-then-is_empty c =
     let p = replay_of c.clock.new.self in
     let none = eqb-true (length c.rest_of-rest.result.now) 0 (sym c.if-is_empty.ensures) in
     record {
-      piece = last_piece trace (replay_of c.args.self.now) p p (text_of c.args.out.now) (text_of c.end.new.out) (last_text p) c.clock.ensures.same c.in-ok-end.ensures (owes_last trace c.rest_of-rest.result.now p c.rest_of-rest.ensures none);
+      piece = last_piece trace (replay_of c.args.self.now) p p (text_of c.args.out.now) (text_of c.end.new.out) (last_text p) c.clock.ensures.same c.in_ok-end.ensures (owes_last trace c.rest_of-rest.result.now p c.rest_of-rest.ensures none);
       further = tt;
     }
 
-pub returns-in-default : goal.returns-in-default
-returns-in-default c =
+pub returns-in_default : goal.returns-in_default
+returns-in_default c =
     let trace = c.args.trace.now in
     let p = replay_of c.clock.new.self in
     let some = eqb-false (length c.rest_of-rest.result.now) 0 (sym c.if-is_empty.ensures) in
     record {
-      piece = last_piece trace (replay_of c.args.self.now) p p (text_of c.args.out.now) (text_of c.push_fault.new.self) (fault_text p.offset) c.clock.ensures.same c.in-ok-push_fault.ensures (owes_fault trace c.rest_of-rest.result.now p c.rest_of-rest.ensures some (sym c.in-default.ensures));
+      piece = last_piece trace (replay_of c.args.self.now) p p (text_of c.args.out.now) (text_of c.push_fault.new.self) (fault_text p.offset) c.clock.ensures.same c.in_ok-push_fault.ensures (owes_fault trace c.rest_of-rest.result.now p c.rest_of-rest.ensures some (sym c.in_default.ensures));
       further = tt;
     }
 
@@ -33,25 +33,25 @@ returns-then-not-allows c =
     let trace = c.args.trace.now in
     let p = replay_of c.clock.new.self in
     record {
-      piece = last_piece trace (replay_of c.args.self.now) p p (text_of c.args.out.now) (text_of c.push_fault-then-not-allows.new.self) (fault_text p.offset) c.clock.ensures.same c.in-ok-push_fault-2.ensures (owes_refused trace c.rest_of-rest.result.now p c.in-Some.record c.rest_of-rest.ensures (sym c.in-Some.ensures) (sym c.if-not-allows.ensures));
+      piece = last_piece trace (replay_of c.args.self.now) p p (text_of c.args.out.now) (text_of c.push_fault-then-not-allows.new.self) (fault_text p.offset) c.clock.ensures.same c.in_ok-push_fault-2.ensures (owes_refused trace c.rest_of-rest.result.now p c.in-Some.record c.rest_of-rest.ensures (sym c.in-Some.ensures) (sym c.if-not-allows.ensures));
       further = tt;
     }
 
 -- the record begins inside the trace, so the counts fit
 
-pub overflow-add-self : goal.overflow-add-self
-overflow-add-self c =
+pub overflow_add-self : goal.overflow_add-self
+overflow_add-self c =
     let h = record_inside c.args.trace.now c.rest_of-rest.result.now c.clock.new.self.offset c.in-Some.record c.rest_of-rest.ensures c.in-Some.ensures in
     let few = c.clock.new.self.few in
     omega arith
 
-pub overflow-add-self-2 : goal.overflow-add-self-2
-overflow-add-self-2 c =
+pub overflow_add-self-2 : goal.overflow_add-self-2
+overflow_add-self-2 c =
     let h = record_inside c.args.trace.now c.rest_of-rest.result.now c.clock.new.self.offset c.in-Some.record c.rest_of-rest.ensures c.in-Some.ensures in
     omega arith
 
-pub overflow-add-self-3 : goal.overflow-add-self-3
-overflow-add-self-3 c =
+pub overflow_add-self-3 : goal.overflow_add-self-3
+overflow_add-self-3 c =
     let h = record_inside c.args.trace.now c.rest_of-rest.result.now c.clock.new.self.offset c.in-Some.record c.rest_of-rest.ensures c.in-Some.ensures in
     let few = c.clock.new.self.few in
     omega arith
@@ -68,7 +68,7 @@ returns c =
     let long = c.len.ensures.low_bound in
     record {
       piece =
-          next_piece trace (replay_of c.args.self.now) p after (text_of c.args.out.now) (text_of c.play.new.out) (printed r (p.lines + 1) p.bench) c.clock.ensures.same c.in-ok-play.ensures.text
-          (owes_on trace c.rest_of-rest.result.now p b r c.len.result c.lines.result c.rest_of-rest.ensures (sym c.in-Some.ensures) (sym c.if-not-allows.ensures) c.in-ok-play.ensures.state c.len.ensures.value c.lines.ensures.value);
+          next_piece trace (replay_of c.args.self.now) p after (text_of c.args.out.now) (text_of c.play.new.out) (printed r (p.lines + 1) p.bench) c.clock.ensures.same c.in_ok-play.ensures.text
+          (owes_on trace c.rest_of-rest.result.now p b r c.len.result c.lines.result c.rest_of-rest.ensures (sym c.in-Some.ensures) (sym c.if-not-allows.ensures) c.in_ok-play.ensures.state c.len.ensures.value c.lines.ensures.value);
       further = (omega arith, omega arith);
     }

@@ -17,6 +17,6 @@ pub returns : goal.returns
 returns t c =
     still_made c.push_bytes-2.result
     (λ _ e.
-    then (text_of c.args.self.now) (decimal (c.args.n / 100)) ((48 + c.args.n / 10 % 10) ∷ (48 + c.args.n % 10) ∷ []) c.in-ok-push_decimal.ensures e
+    then (text_of c.args.self.now) (decimal (c.args.n / 100)) ((48 + c.args.n / 10 % 10) ∷ (48 + c.args.n % 10) ∷ []) c.in_ok-push_decimal.ensures e
     ∙ ap (λ (ds : List ℕ). text_of c.args.self.now ++ ds) (sym (two_more c.args.n (omega arith) (omega arith))))
     c.push_bytes-2.ensures

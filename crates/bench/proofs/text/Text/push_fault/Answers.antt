@@ -7,5 +7,5 @@ pub returns : goal.returns
 returns c =
     let t = text_of c.args.self.now in
     let offset = decimal c.args.offset in
-    let e1 = then t (codes "trace 13 at ") offset c.in-ok-push_bytes.ensures c.in-ok-push_decimal.ensures in
+    let e1 = then t (codes "trace 13 at ") offset c.in_ok-push_bytes.ensures c.in_ok-push_decimal.ensures in
     still_made c.push.result (λ _ e. then t (codes "trace 13 at " ++ offset) (codes "\n") e1 e) c.push.ensures

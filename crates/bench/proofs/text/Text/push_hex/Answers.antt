@@ -10,8 +10,8 @@ returns c =
     let t = c.reserve.new.self in
     let m = 2 * length c.args.bytes.now in
     let ys = c.write_hex.new.text in
-    let room = c.in-ok-reserve.ensures.room in
+    let room = c.in_ok-reserve.ensures.room in
     ap (λ (xs : List ℕ). take (t.len + m) (vec_items (with_items t.buffer (put_mid t.len (t.len + m - t.len) xs ys)))) c.as_mut_slice.ensures.value
     ∙ grown t.buffer t.len m (t.len + m - t.len) ys room (ap length c.write_hex.ensures ∙ length-hex_of c.args.bytes.now) (omega arith)
-    ∙ ap (λ (xs : List ℕ). xs ++ ys) c.in-ok-reserve.ensures.same
+    ∙ ap (λ (xs : List ℕ). xs ++ ys) c.in_ok-reserve.ensures.same
     ∙ ap (λ (xs : List ℕ). text_of c.args.self.now ++ xs) c.write_hex.ensures

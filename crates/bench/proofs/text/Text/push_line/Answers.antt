@@ -11,8 +11,8 @@ returns c =
     let number = decimal c.args.number in
     let bytes = answer_text c.args.bytes.now in
     let space = codes " " in
-    let e1 = then t line space c.in-ok-push_decimal.ensures c.in-ok-push.ensures in
-    let e2 = then t (line ++ space) number e1 c.in-ok-push_decimal-2.ensures in
-    let e3 = then t (line ++ space ++ number) space e2 c.in-ok-push-2.ensures in
-    let e4 = then t (line ++ space ++ number ++ space) bytes e3 c.in-ok-push_answer.ensures in
+    let e1 = then t line space c.in_ok-push_decimal.ensures c.in_ok-push.ensures in
+    let e2 = then t (line ++ space) number e1 c.in_ok-push_decimal-2.ensures in
+    let e3 = then t (line ++ space ++ number) space e2 c.in_ok-push-2.ensures in
+    let e4 = then t (line ++ space ++ number ++ space) bytes e3 c.in_ok-push_answer.ensures in
     still_made c.push-3.result (λ _ e. then t (line ++ space ++ number ++ space ++ bytes) (codes "\n") e4 e) c.push-3.ensures

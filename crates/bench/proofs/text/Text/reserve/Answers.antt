@@ -8,7 +8,7 @@ returns c =
     let n = c.saturating_add.result in
     let whole = t.buffer.ok.0 in
     let small = t.within in
-    let was = c.in-ok-resize.was in
+    let was = c.in_ok-resize.was in
     let len = at_ok n (vec_len t.buffer) c.resize.result was c.resize.ensures.len in
     let zeros = replicate (n - vec_len t.buffer) 0 in
     record {

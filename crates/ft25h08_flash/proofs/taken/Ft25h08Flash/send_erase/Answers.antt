@@ -9,8 +9,8 @@ use Rattle.ft25h08_flash.proofs.Starting.{erase_free, erase_means}
 use Rattle.ft25h08_flash.specs.Taking.{length_marks, idle_ready}
 use Rattle.ft25h08_flash.proofs.taken.Ft25h08Flash.send_erase.Goals as goal
 
-pub overflow-mul-sector : goal.overflow-mul-sector
-overflow-mul-sector c =
+pub overflow_mul-sector : goal.overflow_mul-sector
+overflow_mul-sector c =
     let x = chip_of c.args.self.now.chip in
     let there = c.requires.place in
     let l = length_marks x.settings (length x.array) in

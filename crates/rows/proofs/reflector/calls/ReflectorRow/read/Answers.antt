@@ -11,5 +11,5 @@ returns c =
     let f : SFits w16 o = search rules in
     let long : length bs ≡ 11 = search rules in
     let eight : length name ≡ 8 = search rules in
-    let row = row_of_eleven bs name o long c.if-from-ne82.false c.copy_from_slice.ensures.after c.from_le_bytes-offset.ensures c.type-inv.from in
+    let row = row_of_eleven bs name o long c.if-from-ne82.false c.copy_from_slice.ensures.after c.from_le_bytes-offset.ensures c.type_inv.from in
     reflector_reads bs name o c.new.result row long eight f (simp to_z-of_z at c.new.ensures)

@@ -8,11 +8,11 @@ pub returns : goal.returns
 returns c =
     let bs = c.args.from.now in
     let t = c.from_le_bytes-tenths.result in
-    let o = c.in-ok-offset.offset in
-    let from = c.in-ok-offset.ensures in
+    let o = c.in_ok-offset.offset in
+    let from = c.in_ok-offset.ensures in
     let f : SFits w16 t = search rules in
     let g = offset_fits o from.0 in
     let long : length bs ≡ 6 = search rules in
-    let row = row_of_six bs t o _ long c.if-kind-ne84.false c.from_le_bytes-tenths.ensures from.1 from.2 c.from_le_bytes-magnitude.ensures c.type-inv.from in
+    let row = row_of_six bs t o _ long c.if-kind-ne84.false c.from_le_bytes-tenths.ensures from.1 from.2 c.from_le_bytes-magnitude.ensures c.type_inv.from in
     let made = simp to_z-of_z at c.new.ensures in
     temperature_reads bs t o c.new.result row f from.0 made
