@@ -1,5 +1,5 @@
 -- The line of a frame: its answer buffer is as long as the frame, so it holds what is driven and nothing else.
-use Rattle.std.proofs.Common.{◌≡◌, ℕ, ◌<◌, List, [], length, get_or, Ok, Err, Result, sym, refl, ap, ◌∙◌, arith}
+use Rattle.std.proofs.Common.{◌≡◌, ℕ, List, [], length, Ok, Err, Result, sym, refl, ap, ◌∙◌, arith}
 use Rattle.cells.specs.Bytes.{counted}
 use Rattle.cells.specs.Driven.{driven, silent}
 use Rattle.cells.proofs.Ranges.{counted_all, length-changed, get_or-changed, changed_inside}

@@ -1,10 +1,9 @@
 -- Text that grows at its end.
-use Rattle.std.proofs.Common.{◌≡◌, ℕ, ◌+◌, ◌-◌, ◌*◌, ◌<◌, ◌≤◌, cond, List, [], ◌∷◌, ◌++◌, length, get_or, take, drop, set, is_ok, IfOk, Ok, Err, vec_items, vec_len, Result, Vec, sym, refl, ap, ◌∙◌, arith, rules}
+use Rattle.std.proofs.Common.{◌≡◌, ℕ, ◌+◌, ◌*◌, ◌<◌, ◌≤◌, cond, List, [], ◌∷◌, ◌++◌, length, get_or, take, drop, set, is_ok, IfOk, Ok, Err, vec_items, vec_len, Result, Vec, sym, refl, ap, ◌∙◌, arith, rules}
 use borrow.Rule.Slice.PartMut.{put_mid}
 use Rattle.std.specs.Vec.{with_items}
-use Rattle.std.specs.List.{flat_map}
 use Rattle.std.specs.declared.alloc.Global.{Global}
-use Rattle.std.proofs.lemmas.List.{append_assoc, set_at, length_push, length-append, take_more, take_all, take-append-le, with_items_is, drop_more, places}
+use Rattle.std.proofs.lemmas.List.{append_assoc, set_at, length_push, take_more, take_all, take-append-le, with_items_is, drop_more, places}
 use Rattle.std.proofs.lemmas.Bool.{cond-true}
 use Rattle.std.proofs.lemmas.Slice.{take-put_mid}
 use Rattle.bench.specs.Texts.{hex_byte, hex_of}

@@ -1,5 +1,5 @@
 -- The chip that every trace is replayed over.
-use Rattle.std.specs.Prelude.{◌≡◌, ℕ, ◌<◌, List, length, vec_items, vec_len, Vec, slice_index}
+use Rattle.std.specs.Prelude.{◌≡◌, ℕ, ◌<◌, vec_items, vec_len, Vec, slice_index}
 use Rattle.std.specs.declared.alloc.Global.{Global}
 use Rattle.ft25h08.specs.Birth.{newborn}
 use Rattle.ft25h08.specs.declared.ticks.Ticks.{Ticks}

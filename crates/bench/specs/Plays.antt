@@ -1,5 +1,5 @@
 -- What a record does on the bench, and what it prints.
-use Rattle.std.specs.Prelude.{◌≡◌, ℕ, zero, suc, Bool, true, false, cond, not, ◌&&◌, List, [], ◌∷◌, ◌++◌, length, Ok, Err, Result, nat_lt}
+use Rattle.std.specs.Prelude.{◌≡◌, ℕ, zero, suc, Bool, true, false, not, ◌&&◌, List, [], ◌∷◌, ◌++◌, length, Ok, Err, Result, nat_lt}
 use Rattle.cells.specs.Bytes.{counted}
 use Rattle.cells.specs.Driven.{silent}
 use Rattle.ft25h08_commands.specs.Frames.{command_in}
@@ -12,8 +12,6 @@ use Rattle.ft25h08.specs.Pin.{pin_answer, pin_after}
 use Rattle.ft25h08.specs.PowerCut.{cut_answer, cut_after}
 use Rattle.ft25h08.specs.Refusals.{pin_number, cut_number}
 use Rattle.ft25h08.specs.Tick.{tick_after}
-use Rattle.ft25h08.specs.declared.refusals.CutRefusal.{CutRefusal}
-use Rattle.ft25h08.specs.declared.refusals.PinRefusal.{PinRefusal}
 use Rattle.bench.specs.Texts.{line_text}
 use Rattle.bench.specs.declared.record.Record.{Record}
 use Rattle.bench.specs.declared.record.Record.TheVariants.{Byte, SelectLow, SelectHigh, Ticks, WpPin, PowerCut}

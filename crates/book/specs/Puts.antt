@@ -1,5 +1,5 @@
 -- What a put row answers, and what it leaves.
-use Rattle.std.specs.Prelude.{ℕ, Bool, cond, List, Ok, Err, Result, nat_lt}
+use Rattle.std.specs.Prelude.{ℕ, cond, List, Err, Result, nat_lt}
 use Rattle.flash.specs.Meaning.{Meaning}
 use Rattle.writer.specs.Put.{put_answer}
 use Rattle.writer.specs.declared.refusal.PutRefusal.{PutRefusal}

@@ -1,5 +1,5 @@
 -- Where the slots of a book lie: one behind the other, each as long as a row.
-use Rattle.std.specs.Prelude.{ℕ, ◌+◌, ◌*◌, ◌/◌, Bool, cond, List, take, drop, Some, None, Option, nat_lt}
+use Rattle.std.specs.Prelude.{ℕ, ◌+◌, ◌*◌, ◌/◌, cond, List, take, drop, Some, None, Option, nat_lt}
 
 -- how many slots fit wholly into an area; a kind whose rows are too long has none
 abbrev pub slots_in : ℕ → ℕ → ℕ

@@ -1,9 +1,9 @@
 -- The answer buffer of a read: FF first, then the cells.
-use Rattle.std.proofs.Common.{◌≡◌, ℕ, ◌+◌, ◌-◌, ◌%◌, ◌<◌, ◌≤◌, min, Bool, cond, ◌&&◌, ◌||◌, eqb, ltb, leb, ◌⊎◌, List, length, get_or, sym, refl, ap, ◌∙◌, inl, inr, arith}
+use Rattle.std.proofs.Common.{◌≡◌, ℕ, ◌+◌, ◌-◌, ◌<◌, ◌≤◌, min, ltb, ◌⊎◌, List, length, get_or, sym, ap, ◌∙◌, inl, inr, arith}
 use borrow.Rule.Slice.PartMut.{put_mid}
 use Rattle.std.proofs.lemmas.Bool.{cases_lt, cond-true, cond-false, or_left, or_right, or_from, lt-ltb, le-ltb, eq-eqb, ne_eqb}
 use Rattle.std.proofs.lemmas.Bool.Decides.{nat_tests}
-use Rattle.cells.specs.Bytes.{counted, changed, changed_at, within, wrapped}
+use Rattle.cells.specs.Bytes.{counted, changed_at, wrapped}
 use Rattle.cells.specs.Driven.{driven, silent, read_out}
 use Rattle.cells.proofs.Ranges.{length-counted, get_or-counted, length-changed, get_or-changed, changed_all, changed_inside}
 use Rattle.cells.proofs.Stretches.{before_stretch, inside_stretch, after_stretch, length_stretch}

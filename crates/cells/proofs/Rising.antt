@@ -1,10 +1,9 @@
 -- Which bits an AND can bring about.
-use Rattle.std.proofs.Common.{◌≡◌, ℕ, zero, suc, ◌+◌, ◌/◌, ◌%◌, ◌^◌, ◌<◌, min, Bool, true, false, not, ◌&&◌, eqb, ◌⊎◌, sym, refl, ap, ◌∙◌, inl, inr, arith}
+use Rattle.std.proofs.Common.{◌≡◌, ℕ, zero, suc, ◌+◌, ◌/◌, ◌%◌, ◌^◌, ◌<◌, min, true, false, not, eqb, sym, refl, ap, ◌∙◌, inl, inr, arith}
 use lib.Bits.{bit_and, and_step, and_shr, and_zero_r}
 use Rattle.std.proofs.lemmas.Nat.{shr-shr, pow-add, and_mask}
 use Rattle.std.proofs.lemmas.Bool.{cases_Bool, cases_eq, true≢false, eqb-true, eq-eqb, ne_eqb, and_from, and_left, and_parts, not_from_true, not_from_false}
 use Rattle.cells.specs.Bits.{bit_of, rises_in, rises}
-use Rattle.cells.specs.Tests.{any_in}
 use Rattle.cells.proofs.Spans.{any_gives, any_from, any_none, none_at}
 
 low_and : (a b : ℕ) → bit_and a b % 2 ≡ min (a % 2) (b % 2)

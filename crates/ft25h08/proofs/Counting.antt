@@ -1,5 +1,5 @@
 -- Each tick count of a chip is at least 1.
-use Rattle.std.proofs.Common.{◌≡◌, Bool, true, ◌&&◌, ltb}
+use Rattle.std.proofs.Common.{◌≡◌, true, ltb}
 use Rattle.std.proofs.lemmas.Bool.{and_parts}
 use Rattle.ft25h08_commands.specs.declared.command.EraseSize.{EraseSize}
 use Rattle.ft25h08_commands.specs.declared.command.EraseSize.TheVariants.{Sector, Block32, Block64}

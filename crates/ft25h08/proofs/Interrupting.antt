@@ -1,5 +1,5 @@
 -- A status write that is interrupted with an even first junk byte leaves the old settings.
-use Rattle.std.proofs.Common.{◌≡◌, ℕ, ◌%◌, false, cond, eqb, List, get_or, ap}
+use Rattle.std.proofs.Common.{◌≡◌, ℕ, ◌%◌, false, eqb, List, get_or, ap}
 use Rattle.std.proofs.lemmas.Bool.{cond-false, ne_eqb}
 use Rattle.ft25h08_commands.specs.declared.settings.Settings.{Settings}
 use Rattle.ft25h08.specs.Chip.{Chip}

@@ -1,5 +1,5 @@
 -- What an accepted frame does, and what the chip drives meanwhile.
-use Rattle.std.specs.Prelude.{ℕ, ◌-◌, ◌/◌, ◌%◌, true, false, List, length}
+use Rattle.std.specs.Prelude.{ℕ, ◌/◌, ◌%◌, true, false, List, length}
 use Rattle.cells.specs.Driven.{silent, repeated, read_out}
 use Rattle.cells.specs.Latch.{latched}
 use Rattle.ft25h08_commands.specs.Frames.{data_in, region_length}

@@ -1,5 +1,5 @@
 -- The status register: which bit is where, and what a status write takes.
-use Rattle.std.specs.Prelude.{ℕ, ◌+◌, ◌*◌, ◌/◌, ◌%◌, ◌^◌, Bool, true, false, cond, ◌||◌, ◌==◌}
+use Rattle.std.specs.Prelude.{ℕ, ◌+◌, ◌*◌, ◌/◌, ◌%◌, ◌^◌, Bool, false, cond, ◌||◌, ◌==◌}
 use Rattle.ft25h08_commands.specs.declared.settings.Settings.{Settings}
 
 -- a newborn chip's settings

@@ -1,5 +1,5 @@
 -- What a step comes to, and what it leaves.
-use Rattle.std.specs.Prelude.{ℕ, min, Bool, true, false, cond, List, [], ◌∷◌, length, take, replicate, Ok, Err, Result, ◌==◌, slice_index}
+use Rattle.std.specs.Prelude.{ℕ, min, Bool, List, [], ◌∷◌, length, take, replicate, Ok, Err, Result, ◌==◌, slice_index}
 use Rattle.flash.specs.Answers.{read_answer, program_answer, erase_answer, mark_answer}
 use Rattle.flash.specs.Meaning.{Meaning}
 use Rattle.flash.specs.Steps.{completed, program_completed, erase_completed}

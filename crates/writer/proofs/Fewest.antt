@@ -1,11 +1,9 @@
 -- No list of page programs and sector erases has fewer erases than there are sectors that have to be erased.
-use Rattle.std.proofs.Common.{◌≡◌, ℕ, ◌+◌, ◌-◌, ◌*◌, ◌/◌, ◌<◌, ◌≤◌, Bool, true, false, ◌⊎◌, List, [], ◌∷◌, length, get_or, sym, ap, ◌∙◌, subst, inl, inr, arith}
-use lib.Bits.{bit_and}
+use Rattle.std.proofs.Common.{◌≡◌, ℕ, ◌+◌, ◌-◌, ◌*◌, ◌/◌, ◌<◌, ◌≤◌, true, ◌⊎◌, List, [], ◌∷◌, length, get_or, ap, ◌∙◌, subst, inl, inr, arith}
 use Rattle.std.proofs.lemmas.Bool.{cases_lt}
 use Rattle.cells.specs.Bits.{rises}
-use Rattle.cells.specs.Bytes.{changed}
 use Rattle.cells.specs.Changes.{anded, erased}
-use Rattle.cells.specs.Tests.{any_in, how_many}
+use Rattle.cells.specs.Tests.{how_many}
 use Rattle.cells.proofs.Counts.{count_none, count_more, count_but_one}
 use Rattle.cells.proofs.Ranges.{get_or-changed, changed_inside, changed_outside}
 use Rattle.cells.proofs.Rising.{rises_and}

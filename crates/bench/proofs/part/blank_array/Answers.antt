@@ -1,7 +1,6 @@
-use Rattle.std.proofs.Common.{◌≡◌, ℕ, ◌<◌, List, get_or, replicate, vec_items, vec_len, Vec, ap, ◌∙◌}
+use Rattle.std.proofs.Common.{◌≡◌, ℕ, ◌<◌, List, get_or, replicate, vec_items, Vec, ap, ◌∙◌}
 use Rattle.std.specs.declared.alloc.Global.{Global}
 use Rattle.std.proofs.lemmas.List.{get_or-replicate}
-use Rattle.bench.specs.Newborn.{Blank}
 use Rattle.bench.proofs.Appending.{both_made}
 use Rattle.bench.proofs.part.blank_array.Goals as goal
 

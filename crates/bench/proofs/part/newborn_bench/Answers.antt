@@ -1,4 +1,4 @@
-use Rattle.std.proofs.Common.{◌≡◌, ap, ◌∙◌}
+use Rattle.std.proofs.Common.{ap, ◌∙◌}
 use Rattle.ft25h08.specs.Chip.{Chip}
 use Rattle.bench.specs.Plays.{on_bench}
 use Rattle.bench.proofs.part.newborn_bench.Goals as goal

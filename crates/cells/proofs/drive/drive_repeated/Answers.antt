@@ -1,4 +1,4 @@
-use Rattle.std.proofs.Common.{ℕ, ◌+◌, refl, arith, rules}
+use Rattle.std.proofs.Common.{◌+◌, refl, arith, rules}
 use Rattle.cells.specs.Driven.{repeated}
 use Rattle.cells.proofs.Ranges.{changed_step, changed_ran}
 use Rattle.cells.proofs.drive.drive_repeated.Goals as goal

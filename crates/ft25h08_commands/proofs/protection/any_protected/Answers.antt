@@ -1,4 +1,4 @@
-use Rattle.std.proofs.Common.{◌≡◌, ℕ, Bool, ◌&&◌, ltb, leb, sym, ap, ◌∙◌}
+use Rattle.std.proofs.Common.{ℕ, ◌&&◌, ltb, leb, sym, ap, ◌∙◌}
 use Rattle.ft25h08_commands.specs.Status.{row_number}
 use Rattle.ft25h08_commands.specs.Protection.{protected_by, row}
 use Rattle.ft25h08_commands.proofs.Spans.{meets_any}

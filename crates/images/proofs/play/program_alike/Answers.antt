@@ -1,4 +1,4 @@
-use Rattle.std.proofs.Common.{◌≡◌, ℕ, length, take, replicate, ap, ◌∙◌}
+use Rattle.std.proofs.Common.{ℕ, length, take, replicate, ap, ◌∙◌}
 use Rattle.flash.specs.Answers.{program_answer}
 use Rattle.flash.specs.Steps.{completed, program_completed}
 use Rattle.images.specs.Outcomes.{took_of}

@@ -1,4 +1,4 @@
-use Rattle.std.proofs.Common.{◌≡◌, false, length, sym, ◌∙◌, arith, below_more}
+use Rattle.std.proofs.Common.{length, sym, ◌∙◌, arith, below_more}
 use Rattle.writer.specs.Needed.{rises_at}
 use Rattle.cells.proofs.Rising.{rises_is}
 use Rattle.cells.proofs.Spans.{any_found, any_none}

@@ -1,4 +1,4 @@
-use Rattle.std.proofs.Common.{◌≡◌, false, length, sym, arith, below_more}
+use Rattle.std.proofs.Common.{length, sym, arith, below_more}
 use Rattle.cells.proofs.Spans.{any_found, any_none}
 use Rattle.writer.specs.Needed.{written_at}
 use Rattle.writer.proofs.compare.any_written.Goals as goal

@@ -1,4 +1,4 @@
-use Rattle.std.proofs.Common.{◌≡◌, ℕ, ◌+◌, ◌-◌, ◌/◌, ◌%◌, ◌<◌, Bool, false, ◌&&◌, length, get_or, Some, sym, ap, ◌∙◌, arith}
+use Rattle.std.proofs.Common.{◌≡◌, ℕ, ◌+◌, ◌-◌, ◌/◌, ◌%◌, Bool, false, ◌&&◌, length, get_or, Some, sym, ap, ◌∙◌, arith}
 use Rattle.cells.proofs.Spans.{first_found, first_none}
 use Rattle.writer.specs.Needed.{placed}
 use Rattle.writer.specs.Put.{is_locked}

@@ -1,5 +1,5 @@
-use Rattle.std.proofs.Common.{◌≡◌, ℕ, ◌%◌, Bool, cond, List, length, sym, refl, ap, ◌∙◌, subst, arith}
-use Rattle.writer.specs.Needed.{placed, programs_for}
+use Rattle.std.proofs.Common.{ℕ, Bool, cond, List, length, sym, ap, ◌∙◌, subst, arith}
+use Rattle.writer.specs.Needed.{placed}
 use Rattle.writer.specs.Put.{Made, holding}
 use Rattle.writer.proofs.Placing.{begun_out, holding-still}
 use Rattle.writer.proofs.Needing.{page_once}

@@ -1,4 +1,4 @@
-use Rattle.std.proofs.Common.{◌≡◌, ℕ, ◌+◌, ◌-◌, ◌/◌, ◌%◌, ◌≤◌, Bool, true, false, ◌&&◌, List, length, get_or, take, drop, sym, ap, ◌∙◌, arith}
+use Rattle.std.proofs.Common.{◌≡◌, ℕ, ◌+◌, ◌-◌, ◌/◌, ◌%◌, ◌≤◌, Bool, false, ◌&&◌, List, length, get_or, take, drop, sym, ap, ◌∙◌, arith}
 use Rattle.writer.specs.Needed.{placed, is_touched}
 use Rattle.writer.proofs.Placing.{length_part, read_from}
 use Rattle.writer.proofs.Sectors.{in_sector, read_rises, kept_falls, made_nothing}

@@ -1,4 +1,4 @@
-use Rattle.std.proofs.Common.{◌≡◌, ℕ, ◌+◌, ◌≤◌, List, length, sym, ap, ◌∙◌, arith, rules}
+use Rattle.std.proofs.Common.{ℕ, length, sym, ap, arith, rules}
 use Rattle.cells.proofs.Spans.{none_first}
 use Rattle.flash.specs.Meaning.{Meaning}
 use Rattle.writer.specs.Needed.{placed}

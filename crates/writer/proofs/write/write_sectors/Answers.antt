@@ -1,13 +1,12 @@
-use Rattle.std.proofs.Common.{◌≡◌, ℕ, ◌+◌, ◌-◌, ◌/◌, ◌%◌, ◌<◌, ◌≤◌, Bool, false, ◌&&◌, List, length, get_or, take, drop, sym, ap, ◌∙◌, subst, arith}
+use Rattle.std.proofs.Common.{◌≡◌, ℕ, ◌+◌, ◌-◌, ◌/◌, ◌%◌, Bool, false, ◌&&◌, List, length, get_or, take, drop, sym, ap, ◌∙◌, subst, arith}
 use Rattle.std.proofs.lemmas.Nat.{mul-le}
-use Rattle.cells.proofs.Stretches.{length_stretch}
 use Rattle.flash.specs.Meaning.{Meaning}
 use Rattle.writer.specs.Needed.{placed, is_touched}
 use Rattle.writer.specs.Put.{is_locked}
 use Rattle.writer.proofs.Placing.{begun, begun_more, length-begun, length_part}
 use Rattle.writer.proofs.Needing.{programs_most, erases_most}
 use Rattle.writer.proofs.Paging.{made_programs, made_erases, made_ticks}
-use Rattle.writer.proofs.Walking.{Piece, next_piece, piece_touches, SectorsMade, sectors_start, sectors_step, sectors_done}
+use Rattle.writer.proofs.Walking.{next_piece, piece_touches, SectorsMade, sectors_start, sectors_step, sectors_done}
 use Rattle.writer.proofs.write.write_sectors.Goals as goal
 
 pub loop-pos-init : goal.loop-pos-init

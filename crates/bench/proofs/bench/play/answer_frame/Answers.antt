@@ -1,5 +1,4 @@
-use Rattle.std.proofs.Common.{◌≡◌, ℕ, List, [], ◌++◌, length, ap, ◌∙◌}
-use Rattle.ft25h08_commands.specs.Rules.{number_of}
+use Rattle.std.proofs.Common.{ℕ, List, [], ◌++◌, ap, ◌∙◌}
 use Rattle.ft25h08.specs.Frame.{frame_after, by_size}
 use Rattle.ft25h08.specs.State.{chip_of}
 use Rattle.bench.specs.Gathered.{text_of}

@@ -1,4 +1,4 @@
-use Rattle.std.proofs.Common.{◌≡◌, ℕ, ◌+◌, take, sym, ap, ◌∙◌, add-zero, arith}
+use Rattle.std.proofs.Common.{ℕ, take, sym, ap, ◌∙◌, add-zero, arith}
 use Rattle.std.proofs.lemmas.List.{append-nil, length-set}
 use Rattle.bench.proofs.Clocking.{run_more, bodies-more}
 use Rattle.bench.proofs.frame.clocked.clock_into.Goals as goal

@@ -1,8 +1,6 @@
 use Rattle.std.proofs.Common.{ℕ, List, ◌++◌, sym, ap, ◌∙◌}
 use Rattle.std.proofs.lemmas.Bool.{cond-true, cond-false}
-use Rattle.ft25h08.specs.Queries.{status_of}
 use Rattle.bench.specs.Gathered.{text_of}
-use Rattle.bench.specs.States.{bench_of}
 use Rattle.bench.specs.Texts.{status_text}
 use Rattle.bench.proofs.Appending.{still_made}
 use Rattle.bench.proofs.replay.Replay.end.Goals as goal

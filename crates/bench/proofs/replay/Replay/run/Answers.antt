@@ -1,4 +1,4 @@
-use Rattle.std.proofs.Common.{◌≡◌, Bool, true, false, length, subst, arith}
+use Rattle.std.proofs.Common.{Bool, true, false, length, subst, arith}
 use Rattle.bench.specs.Gathered.{text_of}
 use Rattle.bench.specs.Replays.{replay_of, Piece, Further}
 use Rattle.bench.proofs.Replaying.{no_piece, join_pieces}

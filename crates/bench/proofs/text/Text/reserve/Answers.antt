@@ -1,4 +1,4 @@
-use Rattle.std.proofs.Common.{◌≡◌, ℕ, ◌-◌, ◌≤◌, ◌++◌, take, replicate, vec_items, vec_len, arith, rules}
+use Rattle.std.proofs.Common.{◌-◌, ◌++◌, take, replicate, vec_items, vec_len, arith}
 use Rattle.bench.proofs.Appending.{at_ok, same_front}
 use Rattle.bench.proofs.text.Text.reserve.Goals as goal
 

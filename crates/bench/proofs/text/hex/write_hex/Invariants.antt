@@ -1,4 +1,4 @@
-use Rattle.std.proofs.Common.{◌≡◌, ◌*◌, ◌++◌, length, take, drop}
+use Rattle.std.proofs.Common.{◌≡◌, ◌*◌, ◌++◌, take, drop}
 use Rattle.bench.specs.Texts.{hex_of}
 use Rattle.bench.proofs.text.hex.write_hex.Given as goal
 

@@ -1,4 +1,4 @@
-use Rattle.std.proofs.Common.{ℕ, arith, rules}
+use Rattle.std.proofs.Common.{arith, rules}
 use Rattle.book.proofs.Fitting.{place_ends}
 use Rattle.book.proofs.area.Book.get.Goals as goal
 

@@ -1,4 +1,4 @@
-use Rattle.std.proofs.Common.{◌≡◌, ℕ, ltb, sym, ap, ◌∙◌}
+use Rattle.std.proofs.Common.{ℕ, ltb, ap, ◌∙◌}
 use Rattle.ft25h08.proofs.Counting.{each_count, erase_counts}
 use Rattle.ft25h08.proofs.chip.Ft25h08.act.Goals as goal
 

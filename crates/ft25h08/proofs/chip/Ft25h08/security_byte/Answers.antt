@@ -1,5 +1,4 @@
-use Rattle.std.proofs.Common.{◌≡◌, sym, ap, ◌∙◌}
-use Rattle.ft25h08.specs.Registers.{security_byte}
+use Rattle.std.proofs.Common.{◌∙◌}
 use Rattle.ft25h08.proofs.Registering.{security_byte_lem}
 use Rattle.ft25h08.proofs.chip.Ft25h08.security_byte.Goals as goal
 

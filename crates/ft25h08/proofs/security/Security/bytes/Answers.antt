@@ -1,4 +1,4 @@
-use Rattle.std.proofs.Common.{◌≡◌, ℕ, ◌<◌, ◌≢◌, length, arith, rules, below_more}
+use Rattle.std.proofs.Common.{◌<◌, ◌≢◌, length, arith, below_more}
 use Rattle.std.proofs.lemmas.List.{length-set, get_or-set_same, get_or-set_other}
 use Rattle.cells.proofs.Ranges.{counted_all}
 use Rattle.ft25h08.specs.Registers.{security_of, register_byte}
