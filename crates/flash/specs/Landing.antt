@@ -15,10 +15,10 @@ length-landed (Program at count new) old = length-changed at (length (take (min 
 length-landed (Erase first) old = length-changed first 4096 erased old
 
 -- with nothing under way the later bytes are the bytes
-pub landed-rest : (p : Pending) (old : List ℕ) → ticks_of p ≡ 0 → landed p old ≡ old
-landed-rest Nothing old h = refl
-landed-rest (Program at count new) old h = absurd (omega arith)
-landed-rest (Erase first) old h = absurd (omega arith)
+pub landed_rest : (p : Pending) (old : List ℕ) → ticks_of p ≡ 0 → landed p old ≡ old
+landed_rest Nothing old h = refl
+landed_rest (Program at count new) old h = absurd (omega arith)
+landed_rest (Erase first) old h = absurd (omega arith)
 
 -- one tick lands it
 pub tick_lands : (p : Pending) (old new : List ℕ) (marks : List Bool) (programs erases : ℕ) → new ≡ landed p old → meaning_of Nothing new marks programs erases ≡ after_tick (meaning_of p old marks programs erases)

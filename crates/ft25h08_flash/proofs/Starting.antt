@@ -1,21 +1,37 @@
 -- The start of a change on a taken chip: its answer, why the chip accepts it, and what it means.
-use Rattle.std.proofs.Common.{◌≡◌, ℕ, ◌+◌, ◌-◌, ◌*◌, ◌/◌, ◌%◌, ◌<◌, ◌≤◌, Bool, true, false, leb, List, length, get_or, sym, ap, ◌∙◌, mod-eq_of_lt, arith}
-use Rattle.std.proofs.lemmas.Bool.{and_parts, leb-true}
+use Rattle.std.proofs.Common.{◌≡◌, ℕ, ◌+◌, ◌-◌, ◌*◌, ◌/◌, ◌%◌, ◌<◌, ◌≤◌, Bool, true, false, cond, eqb, leb, List, length, get_or, Ok, Err, Result, sym, ap, ◌∙◌, mod-eq_of_lt, arith}
+use Rattle.std.proofs.lemmas.Bool.{and_parts, leb-true, cond-true, cond-false}
 use Rattle.cells.specs.Bytes.{changed}
 use Rattle.cells.specs.Changes.{programmed, erased}
 use Rattle.cells.specs.Latch.{latched}
 use Rattle.cells.proofs.Latching.{page_anded}
-use Rattle.flash.specs.Answers.{in_page}
-use Rattle.flash.specs.Meaning.{program_started, erase_started}
+use Rattle.flash.specs.Answers.{in_page, start_answer, fresh}
+use Rattle.flash.specs.Meaning.{Meaning, program_started, erase_started}
+use Rattle.flash.specs.declared.in_progress.InProgress.{InProgress}
+use Rattle.flash.specs.declared.refusal.FlashRefusal.{FlashRefusal}
+use Rattle.flash.specs.declared.refusal.FlashRefusal.TheVariants.{Range, Busy, Protected}
 use Rattle.ft25h08_commands.specs.Protection.{any_in, protected_by}
 use Rattle.ft25h08_commands.specs.Rules.{touches_protected, start_of}
 use Rattle.ft25h08_commands.specs.Sizes.{is_capacity}
 use Rattle.ft25h08_commands.proofs.Sizing.{capacity_whole}
 use Rattle.ft25h08.specs.Accepted.{starts}
 use Rattle.ft25h08.specs.Chip.{Chip, with_enable, conditions_of}
-use Rattle.ft25h08_flash.specs.ChipFlash.{marks_of, chip_meaning, page_at, sector_at}
-use Rattle.ft25h08_flash.specs.Taking.{length_marks, get_or_marks}
+use Rattle.ft25h08_flash.specs.ChipFlash.{sector_mark, marks_of, chip_meaning, page_at, sector_at}
+use Rattle.ft25h08_flash.specs.Taking.{length_marks}
 use Rattle.ft25h08_flash.proofs.Sending.{none_inside}
+
+-- the four answers
+pub out_of_place : (here : Bool) (sector : ℕ) (m : Meaning) → here ≡ false → Err Range ≡ start_answer here sector m
+out_of_place here sector m a = sym (cond-false here _ _ a)
+
+pub not_ready : (here : Bool) (sector : ℕ) (m : Meaning) → here ≡ true → eqb m.left 0 ≡ false → Err Busy ≡ start_answer here sector m
+not_ready here sector m a b = sym (cond-true here _ _ a ∙ cond-false (eqb m.left 0) _ _ b)
+
+pub marked : (here : Bool) (sector : ℕ) (m : Meaning) → here ≡ true → eqb m.left 0 ≡ true → get_or m.marks sector false ≡ true → Err Protected ≡ start_answer here sector m
+marked here sector m a b d = sym (cond-true here _ _ a ∙ cond-true (eqb m.left 0) _ _ b ∙ cond-true (get_or m.marks sector false) _ _ d)
+
+pub free : (here : Bool) (sector : ℕ) (m : Meaning) → here ≡ true → eqb m.left 0 ≡ true → get_or m.marks sector false ≡ false → Ok fresh ≡ start_answer here sector m
+free here sector m a b d = sym (cond-true here _ _ a ∙ cond-true (eqb m.left 0) _ _ b ∙ cond-false (get_or m.marks sector false) _ _ d)
 
 -- the marks of a chip
 abbrev marks_in : Chip → List Bool
@@ -42,31 +58,26 @@ sector_there c at n whole h =
     omega arith
 
 -- a page or a sector in a sector that is not marked is not protected
-pub erase_free : (c : Chip) (sector : ℕ) → sector < length (marks_in c) → get_or (marks_in c) sector false ≡ false → touches_protected (conditions_of c) (length c.array) 32 (sector * 4096) ≡ false
+pub erase_free : (c : Chip) (sector : ℕ) → sector * 4096 < length c.array → sector_mark c.settings sector ≡ false → touches_protected (conditions_of c) (length c.array) 32 (sector * 4096) ≡ false
 unfolding touches_protected
-erase_free c sector there none =
-    let l = length_marks c.settings (length c.array) in
-    let e : (sector * 4096) % length c.array ≡ sector * 4096 = mod-eq_of_lt (omega arith) in
+erase_free c sector inside none =
+    let e : (sector * 4096) % length c.array ≡ sector * 4096 = mod-eq_of_lt inside in
     let f : sector * 4096 - sector * 4096 % 4096 ≡ sector * 4096 = omega arith in
     ap (λ (n : ℕ). any_in (protected_by c.settings) (start_of n 4096) 4096) e
     ∙ ap (λ (n : ℕ). any_in (protected_by c.settings) n 4096) f
-    ∙ sym (get_or_marks c.settings (length c.array) sector (omega arith))
     ∙ none
 
-pub program_free : (c : Chip) (at : ℕ) → at / 4096 < length (marks_in c) → get_or (marks_in c) (at / 4096) false ≡ false → touches_protected (conditions_of c) (length c.array) 2 at ≡ false
+pub program_free : (c : Chip) (at : ℕ) → at < length c.array → sector_mark c.settings (at / 4096) ≡ false → touches_protected (conditions_of c) (length c.array) 2 at ≡ false
 unfolding touches_protected
-program_free c at there none =
-    let l = length_marks c.settings (length c.array) in
-    let e : at % length c.array ≡ at = mod-eq_of_lt (omega arith) in
-    let free = sym (get_or_marks c.settings (length c.array) (at / 4096) (omega arith)) ∙ none in
+program_free c at inside none =
+    let e : at % length c.array ≡ at = mod-eq_of_lt inside in
     ap (λ (n : ℕ). any_in (protected_by c.settings) (start_of n 256) 256) e
-    ∙ none_inside (protected_by c.settings) (at / 4096 * 4096) 4096 (at - at % 256) 256 free (omega arith) (omega arith)
+    ∙ none_inside (protected_by c.settings) (at / 4096 * 4096) 4096 (at - at % 256) 256 none (omega arith) (omega arith)
 
 -- an erase that started, as a flash has it
-pub erase_means : (c : Chip) (sector programs erases : ℕ) → sector < length (marks_in c) → chip_meaning (starts (sector_at (sector * 4096) (with_enable true c)) c.ticks.erase_sector (with_enable true c)) programs ((erases + 1) % 4294967296) ≡ erase_started sector (chip_meaning c programs erases)
-erase_means c sector programs erases there =
-    let l = length_marks c.settings (length c.array) in
-    let e : (sector * 4096) % length c.array ≡ sector * 4096 = mod-eq_of_lt (omega arith) in
+pub erase_means : (c : Chip) (sector programs erases : ℕ) → sector * 4096 < length c.array → chip_meaning (starts (sector_at (sector * 4096) (with_enable true c)) c.ticks.erase_sector (with_enable true c)) programs ((erases + 1) % 4294967296) ≡ erase_started sector (chip_meaning c programs erases)
+erase_means c sector programs erases inside =
+    let e : (sector * 4096) % length c.array ≡ sector * 4096 = mod-eq_of_lt inside in
     let f : sector * 4096 - sector * 4096 % 4096 ≡ sector * 4096 = omega arith in
     let later : changed (start_of ((sector * 4096) % length c.array) 4096) 4096 erased c.array ≡ changed (sector * 4096) 4096 erased c.array =
     ap (λ (n : ℕ). changed (start_of n 4096) 4096 erased c.array) e ∙ ap (λ (n : ℕ). changed n 4096 erased c.array) f in

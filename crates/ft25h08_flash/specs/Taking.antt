@@ -1,14 +1,17 @@
 -- A chip as a flash: its marks, what always holds of it, and what a tick makes of it.
-use Rattle.std.specs.Prelude.{◌≡◌, ℕ, ◌-◌, ◌/◌, ◌<◌, Bool, true, false, cond, List, length, ◌==◌, nat_lt, slice_index_or, refl}
-use Rattle.std.proofs.Common.{sym, ap, ◌∙◌, arith}
+use Rattle.std.specs.Prelude.{◌≡◌, ℕ, ◌+◌, ◌-◌, ◌*◌, ◌/◌, ◌%◌, ◌<◌, ◌≤◌, Bool, true, false, cond, not, ◌&&◌, List, length, Ok, Err, ◌==◌, nat_lt, slice_index_or, refl}
+use Rattle.std.proofs.Common.{sym, ap, subst, ◌∙◌, arith}
 use Rattle.std.proofs.lemmas.List.FromFn.{length-map-range_with_len, get_or-map-range_with_len}
-use Rattle.std.proofs.lemmas.Bool.{and_parts, ltb-true, eqb-true, true≢false, cond-false}
+use Rattle.std.proofs.lemmas.Bool.{and_parts, ltb-true, eqb-true, true≢false, cond-true, cond-false, lt-ltb, le-ltb}
+use Rattle.flash.specs.declared.refusal.FlashRefusal.TheVariants.{Range}
+use Rattle.std.proofs.lemmas.Bool.Decides.{nat_tests}
 use Rattle.cells.specs.Changes.{programmed, erased}
 use Rattle.cells.proofs.Ranges.{length-changed}
-use Rattle.flash.specs.Meaning.{Sound, after_tick}
+use Rattle.flash.specs.Meaning.{Meaning, Sound, after_tick}
 use Rattle.ft25h08_commands.specs.Sizes.{is_capacity}
 use Rattle.ft25h08_commands.specs.declared.settings.Settings.{Settings}
 use Rattle.ft25h08_commands.proofs.Sizing.{capacity_some, capacity_most, capacity_whole}
+use Rattle.ft25h08.specs.Activities.{is_changing}
 use Rattle.ft25h08.specs.Chip.{Chip, with_activity}
 use Rattle.ft25h08.specs.Tick.{tick_after, tick_from, landed_array, landed}
 use Rattle.ft25h08.specs.declared.activity.Activity.{Activity}
@@ -24,6 +27,12 @@ length_marks s size = length-map-range_with_len (sector_mark s) 0 (size / 4096)
 pub get_or_marks : (s : Settings) (size sector : ℕ) → sector < size / 4096 → slice_index_or (marks_of s size) sector false ≡ sector_mark s sector
 unfolding marks_of
 get_or_marks s size sector h = get_or-map-range_with_len (sector_mark s) 0 (size / 4096) sector sector false h (omega arith)
+
+-- a taken chip with no change under way is idle
+pub idle_is : (a : Activity) → as_flash a ≡ true → is_changing a ≡ false → a ≡ Idle
+idle_is Idle t h = refl
+idle_is Asleep t h = absurd (true≢false (sym t))
+idle_is (Changing change left) t h = absurd (true≢false h)
 
 length-landed : (ch : Change) (xs : List ℕ) → length (landed_array ch xs) ≡ length xs
 length-landed (Program page latch) xs = length-changed page 256 (programmed latch) xs
@@ -110,3 +119,16 @@ idle_ready (Changing change left) t h =
     let some = ltb-true 0 left (and_parts (nat_lt 0 left) _ (and_parts (of_array change) _ t).1).0 in
     let none = eqb-true left 0 h in
     absurd (omega arith)
+
+-- whether a sector has a mark
+pub has_mark : (s : Settings) (size sector : ℕ) → sector < size / 4096 → nat_lt sector (length (marks_of s size)) ≡ true
+has_mark s size sector h = let l = length_marks s size in lt-ltb sector (length (marks_of s size)) (omega arith)
+
+pub has_none : (s : Settings) (size sector : ℕ) → size / 4096 ≤ sector → nat_lt sector (length (marks_of s size)) ≡ false
+has_none s size sector h = let l = length_marks s size in le-ltb sector (length (marks_of s size)) (omega arith)
+
+pub mark_told : (s : Settings) (size sector : ℕ) (r : Bool) → sector < size / 4096 → r ≡ sector_mark s sector → Ok r ≡ cond (nat_lt sector (length (marks_of s size))) (Ok (slice_index_or (marks_of s size) sector false)) (Err Range)
+mark_told s size sector r h e = ap Ok (e ∙ sym (get_or_marks s size sector h)) ∙ sym (cond-true (nat_lt sector (length (marks_of s size))) _ (Err Range) (has_mark s size sector h))
+
+pub mark_refused : (s : Settings) (size sector : ℕ) → size / 4096 ≤ sector → Err Range ≡ cond (nat_lt sector (length (marks_of s size))) (Ok (slice_index_or (marks_of s size) sector false)) (Err Range)
+mark_refused s size sector h = sym (cond-false (nat_lt sector (length (marks_of s size))) (Ok (slice_index_or (marks_of s size) sector false)) (Err Range) (has_none s size sector h))

@@ -4,8 +4,8 @@ ghost use Rattle.flash.specs.Answers.{image_answer};
 ghost use Rattle.flash.specs.Images.{image_meaning, image_most};
 ghost use Rattle.flash.specs.Pendings.{landed, meaning_of};
 ghost use Rattle.flash.specs.declared.image.Pending.TheVariants.{Nothing};
-ghost use Rattle.std.proofs.Common.{rules, arith};
-ghost use Rattle.flash.specs.Landing.{length-landed, landed-rest};
+ghost use Rattle.std.proofs.Common.{rules};
+ghost use Rattle.flash.specs.Landing.{length-landed, landed_rest};
 
 use crate::image::{Image, Pending};
 use crate::in_progress::InProgress;
@@ -116,12 +116,12 @@ impl NorFlash for Image {
     ghost sound = { λ f.
         let e : vec_len f.bytes ≡ length f.bytes.items = f.bytes.ok.0 in
         let l = length-landed f.pending f.bytes.items in
-        let r = landed-rest f.pending f.bytes.items in
+        let r = landed_rest f.pending f.bytes.items in
         Prim.search rules };
 
-    ghost same = { first_of (Prim.search rules, Prim.grind (arith, Self.row.coded.inj)) };
+    ghost same = { Prim.search rules };
 
-    ghost rests = { first_of (Prim.search rules, Prim.grind (arith, Self.row.coded.inj)) };
+    ghost rests = { Prim.search rules };
 
     fn program(&mut self, at: usize, new: &[u8]) -> Result<InProgress, FlashRefusal> {
         let n = new.len();

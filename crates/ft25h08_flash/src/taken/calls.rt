@@ -1,6 +1,6 @@
 // What a taken chip does.
 ghost use Rattle.std.specs.Prelude.{◌≡◌, ℕ, ◌/◌, ◌<◌, ◌≤◌, true, false, length, Ok, ◌==◌, slice_index_or};
-ghost use Rattle.std.proofs.Common.{subst, rules, arith};
+ghost use Rattle.std.proofs.Common.{subst, rules};
 ghost use Rattle.flash.specs.Answers.{in_page, fresh};
 ghost use Rattle.flash.specs.Meaning.{program_started, erase_started};
 ghost use Rattle.ft25h08.specs.Chip.{with_activity};
@@ -152,9 +152,9 @@ impl NorFlash for Ft25h08Flash {
         let counts = each_count f.chip.ticks f.chip.counts in
         Taking.sound (chip_of f.chip) f.programs f.erases (subst (λ (n : ℕ). is_capacity n ≡ true) f.chip.array.ok.0 f.chip.whole) counts.program counts.sector f.short_program f.short_erase f.taken f.few_programs f.few_erases };
 
-    ghost same = { first_of (Prim.search rules, Prim.grind (arith, Self.row.coded.inj)) };
+    ghost same = { Prim.search rules };
 
-    ghost rests = { first_of (Prim.search rules, Prim.grind (arith, Self.row.coded.inj)) };
+    ghost rests = { Prim.search rules };
 
     fn program(&mut self, at: usize, new: &[u8]) -> Result<InProgress, FlashRefusal> {
         if !fits_page(at, new.len(), self.chip.capacity()) {

@@ -70,13 +70,13 @@ impl Row for Reflector {
 
     ghost bytes = { reflector_bytes };
 
-    ghost nonblank = { first_of (Prim.search rules, Prim.grind (arith, Self.row.coded.inj)) };
+    ghost nonblank = { Prim.search rules };
 
-    ghost bounded = { first_of (Prim.search rules, Prim.grind (arith, Self.row.coded.inj)) };
+    ghost bounded = { Prim.search rules };
 
     ghost long = { λ h x. omega (arith, length-append x.name (signed_low_first x.offset), name_long x.name x.spelt) };
 
-    ghost first = { first_of (Prim.search rules, Prim.grind (arith, Self.row.coded.inj)) };
+    ghost first = { Prim.search rules };
 
     ghost one = { λ h. one_reflector };
 

@@ -5,7 +5,7 @@ ghost use Rattle.rows.specs.Limits.{is_tenths};
 ghost use Rattle.rows.specs.Rows.{held_by, make_answer};
 ghost use Rattle.rows.specs.Temperatures.{is_temperature, numbers_of, temperature_bytes};
 ghost use Rattle.rows.specs.TemperatureRows.{one_temperature};
-ghost use Rattle.std.proofs.Common.{rules, arith};
+ghost use Rattle.std.proofs.Common.{rules};
 
 use crate::limits::is_offset;
 use crate::refusal::RowRefusal;
@@ -75,13 +75,13 @@ impl Row for Temperature {
 
     ghost bytes = { temperature_bytes };
 
-    ghost nonblank = { first_of (Prim.search rules, Prim.grind (arith, Self.row.coded.inj)) };
+    ghost nonblank = { Prim.search rules };
 
-    ghost bounded = { first_of (Prim.search rules, Prim.grind (arith, Self.row.coded.inj)) };
+    ghost bounded = { Prim.search rules };
 
-    ghost long = { first_of (Prim.search rules, Prim.grind (arith, Self.row.coded.inj)) };
+    ghost long = { Prim.search rules };
 
-    ghost first = { first_of (Prim.search rules, Prim.grind (arith, Self.row.coded.inj)) };
+    ghost first = { Prim.search rules };
 
     ghost one = { λ h. one_temperature };
 

@@ -1,4 +1,4 @@
-use Rattle.std.proofs.Common.{◌≡◌, ℕ, ◌+◌, ◌%◌, true, length, ap, ◌∙◌, subst, arith}
+use Rattle.std.proofs.Common.{◌≡◌, ℕ, ◌+◌, ◌/◌, ◌%◌, true, length, sym, ap, ◌∙◌, subst, arith}
 use Rattle.ft25h08_commands.specs.Rules.{touches_protected}
 use Rattle.ft25h08_commands.specs.Sizes.{is_capacity}
 use Rattle.ft25h08.specs.Accepted.{starts}
@@ -8,7 +8,7 @@ use Rattle.ft25h08_flash.specs.ChipFlash.{chip_meaning, page_at}
 use Rattle.ft25h08_flash.specs.Taken.{taken_most}
 use Rattle.ft25h08_flash.specs.declared.taken.Ft25h08Flash.{Ft25h08Flash}
 use Rattle.ft25h08_flash.proofs.Starting.{in_place, sector_there, program_free, program_means}
-use Rattle.ft25h08_flash.specs.Taking.{idle_ready}
+use Rattle.ft25h08_flash.specs.Taking.{length_marks, get_or_marks, idle_ready}
 use Rattle.ft25h08_flash.proofs.taken.Ft25h08Flash.send_program.Goals as goal
 
 -- the array's length is a capacity
@@ -23,6 +23,8 @@ start_program-requires c =
     let n = length c.args.new.now in
     let on = c.enable.ensures in
     let place = in_place at n (length x.array) c.requires.place in
+    let l = length_marks x.settings (length x.array) in
+    let there = sector_there x at n (whole_in f) c.requires.place in
     let most = taken_most c.args.self.now in
     record {
       idle = ap (λ (y : Chip). y.activity) on ∙ idle_ready x.activity f.taken c.requires.ready;
@@ -30,7 +32,7 @@ start_program-requires c =
       some = place.some;
       few = omega arith;
       low = omega arith;
-      free = ap (λ (y : Chip). touches_protected (conditions_of y) (length y.array) 2 at) on ∙ program_free (with_enable true x) at (sector_there x at n (whole_in f) c.requires.place) c.requires.free;
+      free = ap (λ (y : Chip). touches_protected (conditions_of y) (length y.array) 2 at) on ∙ program_free (with_enable true x) at (omega arith) (sym (get_or_marks x.settings (length x.array) (at / 4096) (omega arith)) ∙ c.requires.free);
     }
 
 pub returns : goal.returns
