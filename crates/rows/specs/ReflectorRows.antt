@@ -1,15 +1,18 @@
 -- Reflector rows and their bytes.
-use Rattle.std.specs.Prelude.{◌≡◌, ℕ, ◌+◌, ◌*◌, true, List, [], ◌∷◌, ◌++◌, length, take, drop, ℤ, Result, FitsSigned, slice_index}
-use Rattle.std.proofs.Common.{ap, sym, ◌∙◌, arith, rules, Fits, to_z}
+use Rattle.std.specs.Prelude.{◌≡◌, ◌↔◌, ℕ, ◌+◌, ◌*◌, Bool, true, ◌==◌, IsTrue, List, [], ◌∷◌, ◌++◌, length, take, drop, ℤ, Result, FitsSigned, slice_index}
+use Rattle.std.proofs.Common.{ap, sym, refl, ◌∙◌, arith, rules, Fits, to_z}
 use mathlib.Core.HLevel.{is_prop→PathP}
 use Rattle.std.specs.Coded.{coded_bool}
 use denote.Struct.Props.{≡_prop}
 use Rattle.std.specs.Int.{w8, w16}
 use Rattle.std.proofs.lemmas.List.{drop_at, places, same_lists, take_at}
-use Rattle.std.proofs.lemmas.Bool.Decides.{nat_tests}
+use Rattle.std.specs.Cmp.Lexicographic.{pointwise}
+use Rattle.std.proofs.lemmas.Bool.{and_parts, and_from}
+use Rattle.std.proofs.lemmas.Bool.Decides.{Decides-eqb, Decides-int_eq, nat_tests}
+use Rattle.std.proofs.lemmas.Slice.Eq.{slice_eq-Decides}
 use Rattle.rows.specs.Fields.{signed_low_first}
 use Rattle.rows.specs.Limits.{is_name, is_offset}
-use Rattle.rows.specs.Reflectors.{is_reflector, parts_of, reflector_row, reflector_bytes}
+use Rattle.rows.specs.Reflectors.{is_reflector, parts_of, reflector_row, reflector_bytes, is_same_reflector}
 use Rattle.rows.specs.Rows.{ReadsAs, is_row_long, make_answer, held_by}
 use Rattle.rows.specs.declared.reflector.Reflector.{Reflector}
 use Rattle.rows.specs.declared.refusal.RowRefusal.{RowRefusal}
@@ -73,3 +76,12 @@ pub row_of_eleven : (bs name : List ℕ) (o : ℤ) → length bs ≡ 11 → slic
 row_of_eleven bs name o long kind en eo fits =
     let two = signed_low_first_of o (slice_index bs 9) (slice_index bs 10) eo (omega (arith, fits 9)) (omega (arith, fits 10)) in
     cc (eleven bs long)
+
+-- a test of the name and the offset says whether two rows are identical
+pub identical : (x y : Reflector) (r : Bool) → r ≡ is_same_reflector x y → IsTrue r ↔ (x ≡ y)
+identical x y r e =
+    let names = slice_eq-Decides Decides-eqb x.name y.name (pointwise ◌==◌ x.name y.name) refl in
+    let offsets = Decides-int_eq x.offset y.offset in (
+      λ t. let both = and_parts _ _ (sym e ∙ t) in same_row x y (names.0 both.0, offsets.0 both.1),
+      λ same. e ∙ and_from _ _ (names.1 (ap (λ z. z.name) same)) (offsets.1 (ap (λ z. z.offset) same)),
+    )
