@@ -1,28 +1,33 @@
 -- Byte records at the front of a trace, one more at a time.
-use Rattle.std.proofs.Common.{◌≡◌, ℕ, ◌+◌, ◌*◌, ◌<◌, List, [], ◌∷◌, ◌++◌, length, get_or, take, drop, set, Some, sym, ap, ◌∙◌, arith, below_more}
+use Rattle.std.proofs.Common.{◌≡◌, ℕ, ◌+◌, ◌*◌, ◌≤◌, List, [], ◌∷◌, ◌++◌, length, get_or, drop, Some, sym, ap, ◌∙◌, subst, arith, below_more}
 use Rattle.std.proofs.lemmas.List.FromFn.{map-range_with_len_more}
-use Rattle.std.proofs.lemmas.List.{append_assoc, drop_more, take_more_set}
+use Rattle.std.proofs.lemmas.List.{append_assoc, drop-drop, get_or-drop, length-drop}
 use Rattle.bench.specs.Clocked.{body, bodies, ByteRun}
 use Rattle.bench.specs.Records.{record_in}
 use Rattle.bench.specs.declared.record.Record.TheVariants.{Byte}
 
--- a kind byte 01 with a byte behind it is a byte record
-byte_record : (rest : List ℕ) (n : ℕ) → 2 * n + 1 < length rest → get_or rest (2 * n) 0 ≡ 1 → record_in (drop (2 * n) rest) ≡ Some (Byte (body rest n))
-byte_record rest n h kind =
-    let more : drop (2 * n + 1) rest ≡ body rest n ∷ drop (2 * n + 1 + 1) rest = drop_more rest (2 * n + 1) 0 h in
-    ap record_in (drop_more rest (2 * n) 0 (omega arith) ∙ ap (λ (zs : List ℕ). get_or rest (2 * n) 0 ∷ zs) more)
-    ∙ ap (λ (k : ℕ). record_in (k ∷ (body rest n ∷ drop (2 * n + 1 + 1) rest))) kind
+-- n byte records at the front of a trace are clocked in, behind the bytes that were there
+pub record Clocking (n : ℕ) (rest left before frame : List ℕ) : Type 0 where
+  pub run : ByteRun n rest
+  pub on : left ≡ drop (2 * n) rest
+  pub grew : frame ≡ before ++ bodies n rest
+  pub inside : 2 * n ≤ length rest
 
-pub run_more : (rest : List ℕ) (n : ℕ) → ByteRun n rest → 2 * n + 1 < length rest → get_or rest (2 * n) 0 ≡ 1 → ByteRun (n + 1) rest
-run_more rest n run h kind = below_more _ n run (byte_record rest n h kind)
-
--- its body goes behind the bytes that are there
-pub bodies-more : (front bytes rest : List ℕ) (start n : ℕ) → start + n < length bytes → take (start + n) bytes ≡ front ++ bodies n rest → take (start + (n + 1)) (set bytes (start + n) (body rest n)) ≡ front ++ bodies (n + 1) rest
-bodies-more front bytes rest start n h is =
-    let at : start + (n + 1) ≡ start + n + 1 = omega arith in
-    let b = body rest n in
-    ap (λ (k : ℕ). take k (set bytes (start + n) b)) at
-    ∙ take_more_set bytes (start + n) b h
-    ∙ ap (λ (xs : List ℕ). xs ++ b ∷ []) is
-    ∙ append_assoc front (bodies n rest) (b ∷ [])
-    ∙ ap (λ (xs : List ℕ). front ++ xs) (sym (map-range_with_len_more (body rest) 0 n n (omega arith)))
+-- one more
+pub one_more : (n m : ℕ) (rest left before frame tail : List ℕ) (byte : ℕ) → Clocking n rest left before frame → left ≡ 1 ∷ byte ∷ tail → m ≡ n + 1 → Clocking m rest tail before (frame ++ byte ∷ [])
+one_more n m rest left before frame tail byte c is e =
+    let here : 1 ∷ byte ∷ tail ≡ drop (2 * n) rest = sym is ∙ c.on in
+    let low = c.inside in
+    let long = ap length here ∙ length-drop (2 * n) rest in
+    let its : byte ≡ body rest n = ap (λ (xs : List ℕ). get_or xs 1 0) here ∙ get_or-drop (2 * n) rest 1 0 in
+    record {
+      run = subst (λ (k : ℕ). ByteRun k rest) (sym e) (below_more _ n c.run (ap record_in (sym here) ∙ ap (λ (b : ℕ). Some (Byte b)) its));
+      on = ap (λ (xs : List ℕ). drop 2 xs) here ∙ drop-drop 2 (2 * n) rest ∙ ap (λ (k : ℕ). drop k rest) (omega arith);
+      grew =
+          ap (λ (xs : List ℕ). xs ++ byte ∷ []) c.grew
+          ∙ append_assoc before (bodies n rest) (byte ∷ [])
+          ∙ ap (λ (x : ℕ). before ++ (bodies n rest ++ x ∷ [])) its
+          ∙ ap (λ (xs : List ℕ). before ++ xs) (sym (map-range_with_len_more (body rest) 0 n n (omega arith)))
+          ∙ ap (λ (k : ℕ). before ++ bodies k rest) (sym e);
+      inside = omega arith;
+    }

@@ -3,4 +3,3 @@ pub mod Clocking
 pub mod Ticking
 pub mod Answering
 pub mod Replaying
-pub mod Pairing

@@ -1,8 +1,8 @@
 -- A replay step by step: what is owed before and after.
-use Rattle.std.proofs.Common.{◌≡◌, ℕ, zero, suc, ◌+◌, ◌*◌, ◌<◌, ◌≤◌, Bool, true, false, List, [], ◌∷◌, ◌++◌, length, drop, Some, None, sym, refl, ap, ◌∙◌, subst, inl, inr, add-zero, add-one, arith}
+use Rattle.std.proofs.Common.{◌≡◌, ℕ, zero, suc, ◌+◌, ◌*◌, ◌≤◌, true, false, List, [], ◌∷◌, ◌++◌, length, drop, Some, None, sym, refl, ap, ◌∙◌, subst, inl, inr, add-zero, add-one, arith}
 use Rattle.std.proofs.lemmas.List.FromFn.{length-map-range_with_len, map-range_with_len_more}
-use Rattle.std.proofs.lemmas.List.{append-nil, append_assoc, drop_all, drop-drop, length-append, nil_from_length}
-use Rattle.std.proofs.lemmas.Bool.{cases_lt, and_from, lt-ltb, cond-true, cond-false, cases_Bool}
+use Rattle.std.proofs.lemmas.List.{append-nil, append_assoc, drop-drop, length-append, nil_from_length}
+use Rattle.std.proofs.lemmas.Bool.{and_from, lt-ltb, cond-true, cond-false, cases_Bool}
 use Rattle.bench.specs.Clocked.{body, bodies, ByteRun, Clocked}
 use Rattle.bench.specs.Plays.{OnBench, allowed, played, printed}
 use Rattle.bench.specs.Records.{record_in, record_length, lines_of}
@@ -11,17 +11,6 @@ use Rattle.bench.specs.Report.{Prints, ends, ends_low, no_record, not-now, goes_
 use Rattle.bench.specs.Texts.{fault_text}
 use Rattle.bench.specs.declared.record.Record.{Record}
 use Rattle.bench.specs.declared.record.Record.TheVariants.{Byte}
-
-none_some : (r : Record) → None ≡ Some r → ⊥
-none_some r e = let z : ◌≡◌ {A = ℕ} 0 1 = cc in omega arith
-
--- a record begins inside the trace
-pub record_inside : (trace rest : List ℕ) (at : ℕ) (r : Record) → rest ≡ drop at trace → Some r ≡ record_in rest → at < length trace
-record_inside trace rest at r is found =
-    elim (cases_lt at (length trace)) [
-      | inl lt ↦ lt
-      | inr ge ↦ absurd (none_some r (sym (ap record_in (is ∙ drop_all at trace ge)) ∙ sym found))
-    ]
 
 -- the same text at equal places
 at_place : (s s' : OnBench) (n n' at at' : ℕ) (rest rest' text : List ℕ) → s ≡ s' → n ≡ n' → at ≡ at' → rest ≡ rest' → Prints s n at rest text → Prints s' n' at' rest' text
@@ -102,22 +91,3 @@ last_piece trace before between after out out' text same wrote o = record { text
 -- a piece with more to come
 pub next_piece : (trace : List ℕ) (before between after : Place) (out out' text : List ℕ) → ((t : List ℕ) → Owes trace between t → Owes trace before t) → out' ≡ out ++ text → ((rest : List ℕ) → Owes trace after rest → Owes trace between (text ++ rest)) → Piece trace before after out out' true
 next_piece trace before between after out out' text same wrote o = record { text = text; wrote = wrote; owed = λ rest p. same (text ++ rest) (o rest p) }
-
--- no piece yet
-pub no_piece : (trace : List ℕ) (p : Place) (out : List ℕ) → Piece trace p p out out true
-no_piece trace p out = record { text = []; wrote = sym (append-nil out); owed = λ rest o. o }
-
--- two pieces, one after the other
-pub join_pieces : (more : Bool) (trace : List ℕ) (a b d : Place) (x y z : List ℕ) → Piece trace a b x y true → Piece trace b d y z more → Piece trace a d x z more
-join_pieces true trace a b d x y z p q =
-    record {
-      text = p.text ++ q.text;
-      wrote = q.wrote ∙ ap (λ (t : List ℕ). t ++ q.text) p.wrote ∙ append_assoc x p.text q.text;
-      owed = λ rest o. subst (λ (t : List ℕ). Owes trace a t) (sym (append_assoc p.text q.text rest)) (p.owed (q.text ++ rest) (q.owed rest o));
-    }
-join_pieces false trace a b d x y z p q =
-    record {
-      text = p.text ++ q.text;
-      wrote = q.wrote ∙ ap (λ (t : List ℕ). t ++ q.text) p.wrote ∙ append_assoc x p.text q.text;
-      owed = p.owed q.text q.owed;
-    }

@@ -1,13 +1,8 @@
 -- Bytes clocked in, one record after the other.
-use Rattle.std.specs.Prelude.{◌≡◌, ℕ, ◌+◌, ◌*◌, ◌<◌, ◌≤◌, List, ◌++◌, map, length, take, drop, Some, slice_index}
+use Rattle.std.specs.Prelude.{◌≡◌, ℕ, ◌+◌, ◌*◌, ◌<◌, ◌≤◌, List, ◌++◌, map, length, drop, Some, slice_index}
 use Rattle.std.specs.List.{range_with_len}
 use Rattle.bench.specs.Records.{record_in}
-use Rattle.bench.specs.declared.frame.Frame.{Frame}
 use Rattle.bench.specs.declared.record.Record.TheVariants.{Byte}
-
--- the frame that a value of the code stands for: the first bytes of its buffer
-abbrev pub frame_of : Frame → List ℕ
-frame_of f = take f.len f.bytes
 
 -- the body of byte record k
 abbrev pub body : List ℕ → ℕ → ℕ

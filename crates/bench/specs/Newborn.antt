@@ -2,17 +2,13 @@
 use Rattle.std.specs.Prelude.{◌≡◌, ℕ, ◌<◌, vec_items, vec_len, Vec, slice_index}
 use Rattle.std.specs.declared.alloc.Global.{Global}
 use Rattle.ft25h08.specs.Birth.{newborn}
-use Rattle.ft25h08.specs.declared.ticks.Ticks.{Ticks}
+use Rattle.ft25h08.specs.Counts.{bench_ticks}
 use Rattle.bench.specs.Plays.{OnBench, on_bench}
 
 -- 65,536 bytes, each FF
 pub record Blank (v : Vec ℕ Global) : Type 0 where
   pub whole : vec_len v ≡ 65536
   pub erased : (a : ℕ) → a < 65536 → slice_index (vec_items v) a ≡ 255
-
--- a status write takes 2 ticks, a program 3, the erase of a sector 5, of 32 KiB 8, of 64 KiB 13 and of the chip 21
-abbrev pub bench_ticks : Ticks
-bench_ticks = record { status_write = 2; program = 3; erase_sector = 5; erase_block32 = 8; erase_block64 = 13; erase_chip = 21 }
 
 -- a newborn chip over such an array, on the bench with CS# high
 pub record OnNewborn (s : OnBench) : Type 0 where

@@ -1,7 +1,8 @@
 // A chip on the bench: its CS# line, and the frame that is being clocked in.
-use crate::frame::Frame;
+use arrayvec::ArrayVec;
 use ft25h08::Ft25h08;
 
+mod clock;
 mod play;
 
 /// A chip, whether CS# is low, and the bytes clocked in since it last went low. The answer buffer is kept to save
@@ -10,6 +11,6 @@ mod play;
 pub struct Bench {
     chip: Ft25h08,
     selected: bool,
-    frame: Frame,
+    frame: ArrayVec<u8, 4096>,
     answer: [u8; 4096],
 }

@@ -2,7 +2,6 @@
 #![tactic(auto)]
 
 mod bench;
-mod frame;
 mod part;
 mod record;
 mod replay;
@@ -13,19 +12,9 @@ use replay::Replay;
 use std::io::{Read, Write};
 use text::Text;
 
-// The trace is read in parts of at most this many bytes.
-const PART: usize = 1_048_576;
-
 fn read_trace(rt: &HostRuntime) -> anyhow::Result<Vec<u8>> {
     let mut trace = Vec::new(rt.alloc());
-    let mut part = vec![in rt.alloc(); 0; PART]?;
-    for _ in 0..u64::MAX {
-        let n = rt.stdin().read(part.as_mut_slice())?;
-        if n == 0 {
-            break;
-        }
-        trace.extend_from_slice(&part.as_slice()[0..n])?;
-    }
+    rt.stdin().read_to_end(&mut trace)?;
     Ok(trace)
 }
 

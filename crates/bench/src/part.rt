@@ -8,15 +8,6 @@ use anyhow::anyhow;
 use ft25h08::{Ft25h08, Ticks};
 use std::alloc::{AllocError, Global};
 
-const TICKS: Ticks = Ticks {
-    status_write: 2,
-    program: 3,
-    erase_sector: 5,
-    erase_block32: 8,
-    erase_block64: 13,
-    erase_chip: 21,
-};
-
 // An erased array of 65,536 bytes.
 fn blank_array(heap: Global) -> Result<Vec<u8>, AllocError>
     ensures { IfOk result Blank }
@@ -29,8 +20,9 @@ pub(crate) fn newborn_bench(heap: Global) -> anyhow::Result<Bench>
     ensures { IfOk result (λ b. OnNewborn (bench_of b)) }
 {
     let array = blank_array(heap)?;
-    match Ft25h08::birth_refusal(array.len(), TICKS) {
-        Ok(()) => Ok(Bench::new(Ft25h08::new(array, TICKS))),
-        Err(_) => Err(anyhow!("no chip can be born over this array")),
-    }
+    let ticks = Ticks::bench();
+    Ft25h08::birth_refusal(array.len(), ticks).map_err(|_| anyhow!(
+        "no chip can be born over this array"
+    ))?;
+    Ok(Bench::new(Ft25h08::new(array, ticks)))
 }

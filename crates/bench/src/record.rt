@@ -28,7 +28,7 @@ pub(crate) fn record_in(rest: &[u8]) -> Option<Record>
         [0x02, ..] => Some(Record::SelectLow),
         [0x03, odd, ..] => Some(Record::SelectHigh { odd: *odd }),
         [0x04, low, high, ..] => Some(Record::Ticks {
-            count: *low as u16 + *high as u16 * 256,
+            count: u16::from_le_bytes([*low, *high]),
         }),
         [0x05, level, ..] => Some(Record::WpPin { level: *level }),
         [0x06, junk, ..] => Some(Record::PowerCut { junk: *junk }),

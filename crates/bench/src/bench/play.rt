@@ -6,16 +6,17 @@ ghost use Rattle.ft25h08.specs.PowerCut.{cut_after};
 ghost use Rattle.ft25h08.specs.Queries.{busy_in, status_of};
 ghost use Rattle.ft25h08.specs.State.{chip_of};
 ghost use Rattle.ft25h08.specs.Tick.{tick_after};
-ghost use Rattle.bench.specs.Clocked.{frame_of, Clocked};
+ghost use Rattle.bench.specs.Clocked.{Clocked};
 ghost use Rattle.bench.specs.Gathered.{text_of};
 ghost use Rattle.bench.specs.Plays.{allowed, Played, ticked, frame_number, frame_shown, pin_number_of, cut_number_of, on_bench};
 ghost use Rattle.bench.specs.States.{bench_of};
 ghost use Rattle.bench.specs.Texts.{line_text};
 
 use crate::bench::Bench;
-use crate::frame::Frame;
+use crate::bench::clock::clock_into;
 use crate::record::Record;
 use crate::text::Text;
+use arrayvec::ArrayVec;
 use ft25h08::{FrameRefusal, Ft25h08};
 use std::alloc::AllocError;
 
@@ -101,7 +102,7 @@ impl Bench {
         Bench {
             chip,
             selected: false,
-            frame: Frame::new(),
+            frame: ArrayVec::new(),
             answer: [0; 4096],
         }
     }
@@ -137,7 +138,7 @@ impl Bench {
         ensures chip { (bench_of self.new).chip ≡ (bench_of self.old).chip }
         ensures selected { (bench_of self.new).selected ≡ (bench_of self.old).selected }
     {
-        self.frame.clock(rest)
+        clock_into(&mut self.frame, rest)
     }
 
     /// Plays a record that may come now, and prints its line.

@@ -17,11 +17,7 @@ const PIECE: usize = 65_536;
 fn rest_of(trace: &[u8], offset: usize) -> &[u8]
     ensures { result.now ≡ drop offset trace.now }
 {
-    if offset <= trace.len() {
-        &trace[offset..]
-    } else {
-        &[]
-    }
+    trace.get(offset..).unwrap_or(&[])
 }
 
 impl Replay {

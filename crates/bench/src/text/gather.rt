@@ -1,14 +1,18 @@
 // How text grows.
-ghost use Rattle.std.specs.Prelude.{◌≡◌, ℕ, ◌+◌, ◌≤◌, [], ◌∷◌, ◌++◌, length, vec_len, decimal, OnOk};
+ghost use Rattle.std.specs.Prelude.{◌≡◌, ℕ, ◌+◌, ◌*◌, [], ◌∷◌, ◌++◌, length, decimal, OnOk};
 ghost use Rattle.bench.specs.Gathered.{text_of};
 ghost use Rattle.bench.specs.Texts.{hex_of};
 
 use crate::text::Text;
-use crate::text::hex::write_hex;
 use std::alloc::{AllocError, Global};
 
-// Where the buffer is too short it grows by this much more than is wanted.
-const GROWTH: usize = 131_072;
+// Writes each byte as a pair of lowercase digits, into as many bytes as these are.
+fn write_hex(digits: &mut [u8], bytes: &[u8])
+    requires { length digits.old ≡ 2 * length bytes.now }
+    ensures { digits.new ≡ hex_of bytes.now }
+{
+    let _ = hex::encode_to_slice(bytes, digits);
+}
 
 impl Text {
     /// No text.
@@ -16,8 +20,7 @@ impl Text {
         ensures { text_of result ≡ [] }
     {
         Text {
-            buffer: Vec::new(heap),
-            len: 0,
+            bytes: Vec::new(heap),
         }
     }
 
@@ -25,45 +28,28 @@ impl Text {
     pub(crate) fn as_slice(&self) -> &[u8]
         ensures { result.now ≡ text_of self.now }
     {
-        &self.buffer.as_slice()[0..self.len]
+        self.bytes.as_slice()
     }
 
     /// How many bytes it has.
     pub(crate) fn len(&self) -> usize
         ensures { result ≡ length (text_of self.now) }
     {
-        self.len
+        self.bytes.len()
     }
 
     /// Forgets the text.
     pub(crate) fn clear(&mut self)
         ensures { text_of self.new ≡ [] }
     {
-        self.len = 0;
-    }
-
-    // Makes room for so many bytes more.
-    fn reserve(&mut self, more: usize) -> Result<(), AllocError>
-        ensures same { OnOk result (text_of self.new ≡ text_of self.old) }
-        ensures room { OnOk result (self.new.len + more ≤ vec_len self.new.buffer) }
-    {
-        let Some(want) = self.len.checked_add(more) else {
-            return Err(AllocError);
-        };
-        if want <= self.buffer.len() {
-            return Ok(());
-        }
-        self.buffer.resize(want.saturating_add(GROWTH), 0)?;
-        Ok(())
+        self.bytes.clear();
     }
 
     /// One byte more.
     pub(crate) fn push(&mut self, byte: u8) -> Result<(), AllocError>
         ensures { OnOk result (text_of self.new ≡ text_of self.old ++ byte ∷ []) }
     {
-        self.reserve(1)?;
-        self.buffer[self.len] = byte;
-        self.len += 1;
+        self.bytes.push(byte)?;
         Ok(())
     }
 
@@ -71,35 +57,24 @@ impl Text {
     pub(crate) fn push_bytes(&mut self, bytes: &[u8]) -> Result<(), AllocError>
         ensures { OnOk result (text_of self.new ≡ text_of self.old ++ bytes.now) }
     {
-        self.reserve(bytes.len())?;
-        let end = self.len + bytes.len();
-        self.buffer.as_mut_slice()[self.len..end].copy_from_slice(bytes);
-        self.len = end;
-        Ok(())
+        self.bytes.extend_from_slice(bytes)
     }
 
     /// Each byte as a pair of hexadecimal digits.
     pub(crate) fn push_hex(&mut self, bytes: &[u8]) -> Result<(), AllocError>
         ensures { OnOk result (text_of self.new ≡ text_of self.old ++ hex_of bytes.now) }
     {
-        self.reserve(2 * bytes.len())?;
-        let end = self.len + 2 * bytes.len();
-        write_hex(&mut self.buffer.as_mut_slice()[self.len..end], bytes);
-        self.len = end;
+        let start = self.bytes.len();
+        let end = start.checked_add(2 * bytes.len()).ok_or(AllocError)?;
+        self.bytes.resize(end, 0)?;
+        write_hex(&mut self.bytes.as_mut_slice()[start..], bytes);
         Ok(())
     }
 
-    /// A number without leading zeros, two digits at a time.
+    /// A number without leading zeros.
     pub(crate) fn push_decimal(&mut self, n: u64) -> Result<(), AllocError>
         ensures { OnOk result (text_of self.new ≡ text_of self.old ++ decimal n) }
     {
-        if n < 10 {
-            return self.push(b'0' + n as u8);
-        }
-        if n < 100 {
-            return self.push_bytes(&[b'0' + (n / 10) as u8, b'0' + (n % 10) as u8]);
-        }
-        self.push_decimal(n / 100)?;
-        self.push_bytes(&[b'0' + (n / 10 % 10) as u8, b'0' + (n % 10) as u8])
+        self.push_bytes(itoa::Buffer::new().format(n).as_bytes())
     }
 }

@@ -6,6 +6,7 @@ ghost use Rattle.bench.specs.Texts.{answer_text, line_text, status_text, fault_t
 use crate::text::Text;
 use std::alloc::AllocError;
 
+#[tactic(auto, using(std::proofs::lemmas::List::append_assoc))]
 impl Text {
     /// A line: its number, the number of the answer, and the bytes of the answer.
     pub(crate) fn push_line(
@@ -39,7 +40,7 @@ impl Text {
         ensures { OnOk result (text_of self.new ≡ text_of self.old ++ status_text status) }
     {
         self.push_bytes(b"status ")?;
-        self.push_hex(&[(status / 256) as u8, (status % 256) as u8])?;
+        self.push_hex(&status.to_be_bytes())?;
         self.push(b'\n')
     }
 
