@@ -7,6 +7,7 @@ use crate::text::Text;
 use std::alloc::{AllocError, Global};
 
 // Writes each byte as a pair of lowercase digits, into as many bytes as these are.
+#[tactic(auto, using(crate::proofs::Appending::hex_lower))]
 fn write_hex(digits: &mut [u8], bytes: &[u8])
     requires { length digits.old ≡ 2 * length bytes.now }
     ensures { digits.new ≡ hex_of bytes.now }

@@ -1,5 +1,5 @@
-use Rattle.std.proofs.Common.{rules}
+use Rattle.bench.proofs.Appending.{still_made}
 use Rattle.bench.proofs.part.newborn_bench.Goals as goal
 
 pub returns : goal.returns
-returns c = record { array = c.in_ok-array.array; blank = c.in_ok-array.ensures; born = search rules }
+returns c = still_made c.newborn_over.result (λ b born. record { array = c.in_ok-blank_array.field-0; blank = c.in_ok-blank_array.ensures; born = born }) c.newborn_over.ensures
