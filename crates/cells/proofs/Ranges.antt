@@ -1,4 +1,4 @@
--- `counted` and `changed`: lengths, single bytes, and the end of a loop over a range.
+-- `counted` and `changed`: lengths, single bytes, and ranges side by side.
 use Rattle.std.proofs.Common.{◌≡◌, ℕ, ◌+◌, ◌<◌, ◌≤◌, min, cond, ◌⊎◌, List, length, get_or, sym, refl, ap, ◌∙◌, inl, inr, zero-add, arith}
 use Rattle.std.proofs.lemmas.List.FromFn.{length-map-range_with_len, get_or-map-range_with_len}
 use Rattle.std.proofs.lemmas.List.{ext_get_or, get_or_past}

@@ -21,7 +21,8 @@ fn byte_wrapped(bytes: &[u8], at: usize) -> u8
     }
 }
 
-// Gives each cell of a range the byte that the rule makes of its address and of its old byte.
+// Gives each cell of a range the byte that the rule makes of its address and of its old byte. Where the rule is a
+// function g of the two, g has changed the range.
 pub(crate) fn change_range<F: Fn(usize, u8) -> u8>(
     cells: &mut [u8],
     first: usize,
