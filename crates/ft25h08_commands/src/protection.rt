@@ -1,7 +1,8 @@
 // The protection table: 32 rows, chosen by CMP and BP3 to BP0, each a first address and an end.
 ghost use Rattle.std.specs.Prelude.{◌≡◌, ℕ, ◌+◌, ◌<◌, min, max, true, length, nat_lt};
+ghost use Rattle.cells.specs.Tests.{any_in};
 ghost use Rattle.ft25h08_commands.specs.Status.{row_number};
-ghost use Rattle.ft25h08_commands.specs.Protection.{RowOf, every, right_row, protected_by, any_in};
+ghost use Rattle.ft25h08_commands.specs.Protection.{RowOf, every, right_row, protected_by};
 
 use crate::settings::Settings;
 

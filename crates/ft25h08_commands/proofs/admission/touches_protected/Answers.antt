@@ -1,7 +1,8 @@
 use Rattle.std.proofs.Common.{◌≡◌, ℕ, ◌%◌, false, sym, refl, ap, ◌∙◌}
 use Rattle.std.proofs.lemmas.Bool.{cond-true, cond-false}
 use Rattle.ft25h08_commands.specs.Frames.{among, chip_codes, region_of}
-use Rattle.ft25h08_commands.specs.Protection.{any_in, protected_by}
+use Rattle.cells.specs.Tests.{any_in}
+use Rattle.ft25h08_commands.specs.Protection.{protected_by}
 use Rattle.ft25h08_commands.specs.Rules.{touches_protected, start_of}
 use Rattle.ft25h08_commands.specs.declared.conditions.Conditions.{Conditions}
 use Rattle.ft25h08_commands.proofs.admission.touches_protected.Goals as goal

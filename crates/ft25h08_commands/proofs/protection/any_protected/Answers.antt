@@ -1,7 +1,7 @@
 use Rattle.std.proofs.Common.{ℕ, ◌&&◌, ltb, leb, sym, ap, ◌∙◌}
 use Rattle.ft25h08_commands.specs.Status.{row_number}
 use Rattle.ft25h08_commands.specs.Protection.{protected_by, row}
-use Rattle.ft25h08_commands.proofs.Spans.{meets_any}
+use Rattle.cells.proofs.Spans.{meets_any}
 use Rattle.ft25h08_commands.proofs.protection.any_protected.Goals as goal
 
 -- the span is the row of the settings
