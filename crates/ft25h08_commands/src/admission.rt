@@ -10,7 +10,7 @@ use crate::protection::any_protected;
 use crate::shape::shape_of;
 
 /// Why a frame was refused.
-#[derive(Clone, Copy)]
+#[derive(Clone, Copy, PartialEq, Eq, Debug)]
 pub enum FrameRefusal {
     /// more than 4,096 bytes, more than 7 odd bits, or an answer buffer shorter than the frame
     Size,
@@ -34,12 +34,12 @@ pub enum FrameRefusal {
     NoSuchRegister,
 }
 
-impl FrameRefusal {
-    /// The number by which the refusal is known.
-    pub fn number(self) -> u8
-        ensures { result ≡ number_of self }
-    {
-        match self {
+/// The number by which a refusal is known.
+impl From<FrameRefusal> for u8 {
+    ghost from_gives = { λ refusal number. number ≡ number_of refusal };
+
+    fn from(refusal: FrameRefusal) -> u8 {
+        match refusal {
             FrameRefusal::Size => 1,
             FrameRefusal::Busy => 2,
             FrameRefusal::Protected => 3,
