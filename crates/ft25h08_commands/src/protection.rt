@@ -82,6 +82,7 @@ const ROWS: [Span; 32] = [
 ];
 
 // A row of a table whose rows all pass the one test.
+#[tactic(auto, using(crate::proofs::Tables::at, crate::proofs::Tables::right_row_lem))]
 fn row_in(rows: &[Span], k: usize) -> Span
     requires within { k < length rows.now }
     requires tested { every right_row 0 rows.now ≡ true }
@@ -108,6 +109,7 @@ fn shares(span: Span, first: u32, len: u32) -> bool
 }
 
 /// Whether the settings protect one of the `len` bytes from `first` on.
+#[tactic(auto, using(cells::proofs::Spans::meets_any))]
 pub fn any_protected(settings: Settings, first: u32, len: u32) -> bool
     ensures { result ≡ any_in (protected_by settings) first len }
 {
