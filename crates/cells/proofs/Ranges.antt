@@ -1,8 +1,8 @@
--- `counted` and `changed`: lengths, single bytes, and the end of a loop over a range.
-use Rattle.std.proofs.Common.{◌≡◌, ℕ, ◌+◌, ◌<◌, ◌≤◌, min, cond, ◌⊎◌, List, length, get_or, set, sym, refl, ap, ◌∙◌, inl, inr, zero-add, arith}
+-- `counted` and `changed`: lengths, single bytes, and ranges side by side.
+use Rattle.std.proofs.Common.{◌≡◌, ℕ, ◌+◌, ◌<◌, ◌≤◌, min, cond, ◌⊎◌, List, length, get_or, sym, refl, ap, ◌∙◌, inl, inr, zero-add, arith}
 use Rattle.std.proofs.lemmas.List.FromFn.{length-map-range_with_len, get_or-map-range_with_len}
-use Rattle.std.proofs.lemmas.List.{ext_get_or, get_or_past, get_or-set_same, get_or-set_other}
-use Rattle.std.proofs.lemmas.Bool.{cases_eq, cases_lt}
+use Rattle.std.proofs.lemmas.List.{ext_get_or, get_or_past}
+use Rattle.std.proofs.lemmas.Bool.{cases_lt}
 use Rattle.std.proofs.lemmas.Bool.Decides.{nat_tests}
 use Rattle.cells.specs.Bytes.{counted, changed, changed_at, within}
 use Rattle.cells.specs.Changes.{from}
@@ -46,9 +46,13 @@ changed_outside first len g xs a out =
       | inr past ↦ let l = length-changed first len g xs in get_or_past (changed first len g xs) a 0 (omega arith) ∙ sym (get_or_past xs a 0 past)
     ]
 
+-- a range without a byte that exists changes nothing
+pub changed_past : (first len : ℕ) (g : ℕ → ℕ → ℕ) (xs : List ℕ) → min (first + len) (length xs) ≤ first → xs ≡ changed first len g xs
+changed_past first len g xs past = changed_all first len g xs xs refl (λ a h. grind (arith, nat_tests))
+
 -- a range of no bytes changes nothing
 pub changed_none : (first : ℕ) (g : ℕ → ℕ → ℕ) (xs : List ℕ) → xs ≡ changed first 0 g xs
-changed_none first g xs = changed_all first 0 g xs xs refl (λ a h. grind (arith, nat_tests))
+changed_none first g xs = changed_past first 0 g xs (omega arith)
 
 -- two ranges side by side are one
 pub changed_join : (first m n at len : ℕ) (g : ℕ → ℕ → ℕ) (xs : List ℕ) → first + m ≡ at → m + n ≡ len → changed at n g (changed first m g xs) ≡ changed first len g xs
@@ -66,29 +70,6 @@ pub changed_same : (first len : ℕ) (g h : ℕ → ℕ → ℕ) (xs : List ℕ)
 changed_same first len g h xs same =
     changed_all first len h xs (changed first len g xs) (length-changed first len g xs)
     (λ a k. get_or-changed first len g xs a k ∙ ap (λ (y : ℕ). cond (within first len a) y (get_or xs a 0)) (same a (get_or xs a 0)))
-
--- a range that reaches past the last byte is as good as one that ends there
-pub changed_clipped : (first m len : ℕ) (g : ℕ → ℕ → ℕ) (xs : List ℕ) (a : ℕ) → a < length xs → m ≤ len → min (first + len) (length xs) ≤ first + m → changed_at first m g xs a ≡ changed_at first len g xs a
-changed_clipped first m len g xs a h l e = grind (arith, nat_tests)
-
--- one turn of a loop over a range: the first m bytes of it are done, and the next one gets its byte
-pub changed_step : (first m i v : ℕ) (g : ℕ → ℕ → ℕ) (xs ys : List ℕ) → first + m ≡ i → i < length xs → length ys ≡ length xs → v ≡ g i (get_or xs i 0) → ((a : ℕ) → a < length xs → get_or ys a 0 ≡ changed_at first m g xs a) → (n : ℕ) → m + 1 ≡ n → (a : ℕ) → a < length xs → get_or (set ys i v) a 0 ≡ changed_at first n g xs a
-changed_step first m i v g xs ys at lt l new done n more a h =
-    elim (cases_eq a i) [
-      | inl q ↦
-          let s = get_or-set_same ys i v 0 (omega arith) in
-          let e = changed_inside first n g xs i (omega arith) (omega arith) in
-          ap (λ (k : ℕ). get_or (set ys i v) k 0) q ∙ s ∙ new ∙ sym e ∙ sym (ap (λ (k : ℕ). changed_at first n g xs k) q)
-      | inr ne ↦
-          let s = get_or-set_other ys i a v 0 ne in
-          let d = done a h in
-          s ∙ d ∙ grind (arith, nat_tests)
-    ]
-
--- the end of such a loop: it stopped at the end of the range or of the bytes
-pub changed_ran : (first m len : ℕ) (g : ℕ → ℕ → ℕ) (xs ys : List ℕ) → length ys ≡ length xs → m ≤ len → min (first + len) (length xs) ≤ first + m → ((a : ℕ) → a < length xs → get_or ys a 0 ≡ changed_at first m g xs a) → ys ≡ changed first len g xs
-changed_ran first m len g xs ys l u e each =
-    changed_all first len g xs ys l (λ a h. each a h ∙ changed_clipped first m len g xs a h u e)
 
 -- at the address 0 a rule from a base is the rule itself
 pub changed_from_zero : (first len : ℕ) (g : ℕ → ℕ → ℕ) (xs : List ℕ) → changed first len (from 0 g) xs ≡ changed first len g xs

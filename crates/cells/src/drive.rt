@@ -3,7 +3,7 @@ ghost use Rattle.std.specs.Prelude.{◌≡◌, ℕ, ◌+◌, ◌-◌, ◌^◌, �
 ghost use Rattle.cells.specs.Bytes.{counted, wrapped};
 ghost use Rattle.cells.specs.Driven.{driven, silent, repeated, read_out};
 
-use crate::range::erase;
+use crate::range::{change_range, erase};
 
 /// Nothing is driven: the line floats high.
 pub fn drive_nothing(answer: &mut [u8], n: usize)
@@ -12,19 +12,11 @@ pub fn drive_nothing(answer: &mut [u8], n: usize)
     erase(answer, 0, n);
 }
 
-fn value_at(i: usize, value: u8) -> u8
-    ensures { result ≡ repeated value i }
-{
-    if i == 0 { 0xff } else { value }
-}
-
 /// FF while the code comes in, then one value over and over.
 pub fn drive_repeated(answer: &mut [u8], n: usize, value: u8)
     ensures after { answer.new ≡ driven (repeated value) n answer.old }
 {
-    for i in 0..n.min(answer.len()) {
-        answer[i] = value_at(i, value);
-    }
+    change_range(answer, 0, n, |i, _| if i == 0 { 0xff } else { value });
 }
 
 // How many cells can be copied at once: up to the last cell, and as far as there is room.

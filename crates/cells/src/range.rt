@@ -1,6 +1,6 @@
 // Changes to a range of cells. A range may reach past the last cell: only the cells that exist change.
-ghost use Rattle.std.specs.Prelude.{◌≡◌, ℕ, ◌+◌, min, length};
-ghost use Rattle.cells.specs.Bytes.{changed, wrapped};
+ghost use Rattle.std.specs.Prelude.{◌≡◌, ℕ, ◌+◌, ◌<◌, min, true, length};
+ghost use Rattle.cells.specs.Bytes.{changed, within, wrapped};
 ghost use Rattle.cells.specs.Changes.{programmed, anded, erased, cut_while_programming, cut_while_erasing, from};
 
 // Where a range of `len` cells from `first` on ends among `size` cells.
@@ -21,22 +21,37 @@ fn byte_wrapped(bytes: &[u8], at: usize) -> u8
     }
 }
 
+// Gives each cell of a range the byte that the rule makes of its address and of its old byte. Where the rule is a
+// function g of the two, g has changed the range.
+pub(crate) fn change_range<F: Fn(usize, u8) -> u8>(
+    cells: &mut [u8],
+    first: usize,
+    len: usize,
+    rule: F,
+)
+    requires { (a old : ℕ) → within first len a ≡ true → a < length cells.old → F.pre rule a old }
+    ensures { (g : ℕ → ℕ → ℕ) → ((a old new : ℕ) → F.post rule a old new → new ≡ g a old) → cells.new ≡ changed first len g cells.old }
+{
+    let end = end_of(first, len, cells.len());
+    if first < end {
+        for (k, cell) in cells[first..end].iter_mut().enumerate() {
+            *cell = rule(first + k, *cell);
+        }
+    }
+}
+
 /// A page program lands: the latch is ANDed into the 256 cells from `first` on.
 pub fn program(cells: &mut [u8], first: usize, latch: &[u8; 256])
     ensures after { cells.new ≡ changed first 256 (programmed latch.now) cells.old }
 {
-    for a in first..end_of(first, 256, cells.len()) {
-        cells[a] &= latch[a % 256];
-    }
+    change_range(cells, first, 256, |a, old| old & latch[a % 256]);
 }
 
 /// Bytes are programmed at a place: each is ANDed into its cell.
 pub fn program_bytes(cells: &mut [u8], at: usize, new: &[u8])
     ensures after { cells.new ≡ changed at (length new.now) (anded at new.now) cells.old }
 {
-    for a in at..end_of(at, new.len(), cells.len()) {
-        cells[a] &= new[a - at];
-    }
+    change_range(cells, at, new.len(), |a, old| old & new[a - at]);
 }
 
 /// An erase lands: `len` cells from `first` on become FF.
@@ -54,10 +69,10 @@ pub fn erase(cells: &mut [u8], first: usize, len: usize)
 pub fn cut_program(cells: &mut [u8], base: u32, first: usize, latch: &[u8; 256], junk: &[u8])
     ensures after { cells.new ≡ changed first 256 (from base (cut_while_programming latch.now junk.now)) cells.old }
 {
-    for a in first..end_of(first, 256, cells.len()) {
+    change_range(cells, first, 256, |a, old| {
         let address = base as usize + a;
-        cells[a] &= latch[address % 256] | byte_wrapped(junk, address);
-    }
+        old & (latch[address % 256] | byte_wrapped(junk, address))
+    });
 }
 
 /// The power fails during an erase: `len` cells from `first` on hold junk.
@@ -65,7 +80,10 @@ pub fn cut_program(cells: &mut [u8], base: u32, first: usize, latch: &[u8; 256],
 pub fn cut_erase(cells: &mut [u8], base: u32, first: usize, len: usize, junk: &[u8])
     ensures after { cells.new ≡ changed first len (from base (cut_while_erasing junk.now)) cells.old }
 {
-    for a in first..end_of(first, len, cells.len()) {
-        cells[a] = byte_wrapped(junk, base as usize + a);
-    }
+    change_range(
+        cells,
+        first,
+        len,
+        |a, _| byte_wrapped(junk, base as usize + a),
+    );
 }

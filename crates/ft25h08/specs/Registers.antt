@@ -1,11 +1,12 @@
 -- The four security registers as one list by security address.
-use Rattle.std.specs.Prelude.{ℕ, ◌/◌, ◌%◌, cond, List, [], Some, None, Option, nat_lt, slice_index, slice_index_or}
+use Rattle.std.specs.Prelude.{ℕ, ◌/◌, ◌%◌, cond, List, Some, None, Option, nat_lt, slice_index, slice_index_or, replicate}
+use Rattle.std.proofs.Common.{refl}
 use Rattle.cells.specs.Bytes.{counted}
-use Rattle.ft25h08.specs.declared.security.Register.{Register}
+use Rattle.ft25h08.specs.declared.register.Register.{Register}
 use Rattle.ft25h08.specs.declared.security.Security.{Security}
 
 abbrev pub no_register : Register
-no_register = record { bytes = [] }
+no_register = record { bytes = replicate 256 255; whole = refl }
 
 -- the byte at a security address: byte a mod 256 of register a / 256
 abbrev pub register_byte : Security → ℕ → ℕ

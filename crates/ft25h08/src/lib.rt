@@ -4,6 +4,7 @@
 mod activity;
 mod chip;
 mod refusals;
+mod register;
 mod security;
 mod ticks;
 
@@ -11,5 +12,6 @@ pub use activity::{Activity, Change};
 pub use chip::Ft25h08;
 pub use ft25h08_commands::FrameRefusal;
 pub use refusals::{BirthRefusal, CutRefusal, PinRefusal};
-pub use security::{Register, Security};
+pub use register::Register;
+pub use security::Security;
 pub use ticks::Ticks;

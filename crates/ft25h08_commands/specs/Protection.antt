@@ -1,5 +1,5 @@
 -- Which addresses each row of the protection table covers, and the rule that every row keeps.
-use Rattle.std.specs.Prelude.{◌≡◌, ℕ, zero, suc, ◌+◌, ◌-◌, ◌*◌, ◌%◌, ◌^◌, ◌≤◌, Bool, true, false, cond, ◌&&◌, ◌||◌, List, [], ◌∷◌, ◌==◌, nat_le, nat_lt}
+use Rattle.std.specs.Prelude.{◌≡◌, ℕ, suc, ◌-◌, ◌*◌, ◌%◌, ◌^◌, ◌≤◌, Bool, true, cond, ◌&&◌, List, [], ◌∷◌, ◌==◌, nat_le, nat_lt}
 use Rattle.ft25h08_commands.specs.Status.{row_number}
 use Rattle.ft25h08_commands.specs.declared.protection.Span.{Span}
 use Rattle.ft25h08_commands.specs.declared.settings.Settings.{Settings}
@@ -18,11 +18,6 @@ row k =
 -- the address lies in the row of the settings, end excluded
 abbrev pub protected_by : Settings → ℕ → Bool
 protected_by s a = nat_le (row (row_number s)).0 a && nat_lt a (row (row_number s)).1
-
--- f holds at one of the n addresses from first on
-unfoldable pub any_in : (ℕ → Bool) → ℕ → ℕ → Bool
-any_in f first zero = false
-any_in f first (suc n) = f first || any_in f (first + 1) n
 
 -- whole sectors, in order, inside the largest array
 pub record Sound (first end : ℕ) : Type 0 where

@@ -1,7 +1,8 @@
 -- The refusals of a frame, in their order.
 use Rattle.std.specs.Prelude.{ℕ, ◌-◌, ◌%◌, Bool, true, false, cond, not, ◌&&◌, ◌||◌, ltb, List, [], ◌∷◌, length, Ok, Err, Result, ◌==◌, nat_eq, nat_lt}
 use Rattle.ft25h08_commands.specs.Frames.{among, code_in, address_in, change_codes, quad_codes, security_codes, status_codes, chip_codes, region_of}
-use Rattle.ft25h08_commands.specs.Protection.{protected_by, any_in}
+use Rattle.cells.specs.Tests.{any_in}
+use Rattle.ft25h08_commands.specs.Protection.{protected_by}
 use Rattle.ft25h08_commands.specs.Shapes.{shape_of, is_listed, fits}
 use Rattle.ft25h08_commands.specs.Status.{protects_some}
 use Rattle.ft25h08_commands.specs.declared.admission.FrameRefusal.{FrameRefusal}

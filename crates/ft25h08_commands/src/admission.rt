@@ -10,7 +10,7 @@ use crate::protection::any_protected;
 use crate::shape::shape_of;
 
 /// Why a frame was refused.
-#[derive(Clone, Copy)]
+#[derive(Clone, Copy, PartialEq, Eq, Debug)]
 pub enum FrameRefusal {
     /// more than 4,096 bytes, more than 7 odd bits, or an answer buffer shorter than the frame
     Size,
@@ -34,12 +34,12 @@ pub enum FrameRefusal {
     NoSuchRegister,
 }
 
-impl FrameRefusal {
-    /// The number by which the refusal is known.
-    pub fn number(self) -> u8
-        ensures { result ≡ number_of self }
-    {
-        match self {
+/// The number by which a refusal is known.
+impl From<FrameRefusal> for u8 {
+    ghost from_gives = { λ refusal number. number ≡ number_of refusal };
+
+    fn from(refusal: FrameRefusal) -> u8 {
+        match refusal {
             FrameRefusal::Size => 1,
             FrameRefusal::Busy => 2,
             FrameRefusal::Protected => 3,
@@ -124,6 +124,7 @@ fn is_locked(conditions: Conditions, code: u8) -> bool
     }
 }
 
+#[tactic(auto, unfolding(crate::specs::Rules::touches_protected, cells::specs::Tests::any_in))]
 fn touches_protected(conditions: Conditions, capacity: Capacity, code: u8, at: u32) -> bool
     ensures { result ≡ touches_protected conditions capacity.bytes code at }
 {
@@ -151,19 +152,18 @@ pub fn admit(
     let n = frame.len();
     let code = code_in(frame);
     let at = address_in(frame);
-    let shape = shape_of(code);
-    match code {
+    match shape_of(code) {
         _ if n > 4096 || odd > 7 || room < n => Err(FrameRefusal::Size),
         _ if n == 0 => Err(FrameRefusal::Shape),
-        c if conditions.mode.is_asleep() && c != 0xAB => Err(FrameRefusal::Asleep),
-        _ if !shape.is_listed() => Err(FrameRefusal::Unlisted),
-        c if conditions.mode.is_busy() && !reads_status(c) => Err(FrameRefusal::Busy),
-        _ if !shape.fits(n, odd) => Err(FrameRefusal::Shape),
-        c if starts_change(c) && !conditions.write_enabled => Err(FrameRefusal::NotEnabled),
-        c if uses_four_lines(c) && !conditions.settings.qe => Err(FrameRefusal::QuadDisabled),
-        c if addresses_security(c) && at > 0x3FF => Err(FrameRefusal::NoSuchRegister),
-        c if touches_protected(conditions, capacity, c, at) => Err(FrameRefusal::Protected),
-        c if is_locked(conditions, c) => Err(FrameRefusal::Locked),
+        _ if conditions.mode.is_asleep() && code != 0xAB => Err(FrameRefusal::Asleep),
+        None => Err(FrameRefusal::Unlisted),
+        _ if conditions.mode.is_busy() && !reads_status(code) => Err(FrameRefusal::Busy),
+        Some(shape) if !shape.fits(n, odd) => Err(FrameRefusal::Shape),
+        _ if starts_change(code) && !conditions.write_enabled => Err(FrameRefusal::NotEnabled),
+        _ if uses_four_lines(code) && !conditions.settings.qe => Err(FrameRefusal::QuadDisabled),
+        _ if addresses_security(code) && at > 0x3FF => Err(FrameRefusal::NoSuchRegister),
+        _ if touches_protected(conditions, capacity, code, at) => Err(FrameRefusal::Protected),
+        _ if is_locked(conditions, code) => Err(FrameRefusal::Locked),
         _ => Ok(()),
     }
 }

@@ -1,6 +1,6 @@
 // A frame taken apart: the code, three address bytes, and the rest.
 ghost use Rattle.std.specs.Prelude.{◌≡◌, ℕ, ◌^◌, ◌<◌, length};
-ghost use Rattle.ft25h08_commands.specs.Frames.{command_in, address_of, address_in, code_in, data_in, region_length};
+ghost use Rattle.ft25h08_commands.specs.Frames.{command_in, address_in, code_in, data_in, region_length};
 
 /// How much of the array an erase covers: the sector of 4,096 bytes, or the block of 32,768 or 65,536 bytes.
 #[derive(Clone, Copy)]
@@ -44,12 +44,6 @@ impl EraseSize {
     }
 }
 
-fn address(high: u8, middle: u8, low: u8) -> u32
-    ensures { result ≡ address_of high middle low }
-{
-    high as u32 * 65_536 + middle as u32 * 256 + low as u32
-}
-
 // The code, or 0 in a frame without a whole byte.
 pub(crate) fn code_in(frame: &[u8]) -> u8
     ensures { result ≡ code_in frame.now }
@@ -66,7 +60,7 @@ pub(crate) fn address_in(frame: &[u8]) -> u32
     ensures bound { result < 2 ^ 24 }
 {
     match frame {
-        [_, high, middle, low, ..] => address(*high, *middle, *low),
+        [_, high, middle, low, ..] => u32::from_be_bytes([0, *high, *middle, *low]),
         _ => 0,
     }
 }

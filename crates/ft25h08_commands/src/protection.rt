@@ -1,7 +1,8 @@
 // The protection table: 32 rows, chosen by CMP and BP3 to BP0, each a first address and an end.
 ghost use Rattle.std.specs.Prelude.{◌≡◌, ℕ, ◌+◌, ◌<◌, min, max, true, length, nat_lt};
+ghost use Rattle.cells.specs.Tests.{any_in};
 ghost use Rattle.ft25h08_commands.specs.Status.{row_number};
-ghost use Rattle.ft25h08_commands.specs.Protection.{RowOf, every, right_row, protected_by, any_in};
+ghost use Rattle.ft25h08_commands.specs.Protection.{RowOf, every, right_row, protected_by};
 
 use crate::settings::Settings;
 
@@ -81,6 +82,7 @@ const ROWS: [Span; 32] = [
 ];
 
 // A row of a table whose rows all pass the one test.
+#[tactic(auto, using(crate::proofs::Tables::at, crate::proofs::Tables::right_row_lem))]
 fn row_in(rows: &[Span], k: usize) -> Span
     requires within { k < length rows.now }
     requires tested { every right_row 0 rows.now ≡ true }
@@ -107,6 +109,7 @@ fn shares(span: Span, first: u32, len: u32) -> bool
 }
 
 /// Whether the settings protect one of the `len` bytes from `first` on.
+#[tactic(auto, using(cells::proofs::Spans::meets_any))]
 pub fn any_protected(settings: Settings, first: u32, len: u32) -> bool
     ensures { result ≡ any_in (protected_by settings) first len }
 {

@@ -3,7 +3,7 @@ ghost use Rattle.std.specs.Prelude.{◌≡◌, ℕ, ◌+◌, ◌*◌, ◌/◌, �
 ghost use Rattle.ft25h08_commands.specs.Status.{cleared, row_number, protects_some, is_set, written, low_byte, high_byte, status_word};
 
 /// The bits that a status write may change.
-#[derive(Clone, Copy)]
+#[derive(Clone, Copy, Default)]
 pub struct Settings {
     pub bp0: bool,
     pub bp1: bool,
@@ -28,16 +28,7 @@ impl Settings {
     pub fn new() -> Settings
         ensures { result ≡ cleared }
     {
-        Settings {
-            bp0: false,
-            bp1: false,
-            bp2: false,
-            bp3: false,
-            srp: false,
-            qe: false,
-            lb: false,
-            cmp: false,
-        }
+        Settings::default()
     }
 
     /// The row of the protection table: CMP, BP3, BP2, BP1, BP0 as a number of five bits.
@@ -100,6 +91,6 @@ impl Settings {
     pub fn word(self, wel: bool, wip: bool) -> u16
         ensures { result ≡ status_word self wel wip }
     {
-        self.low_byte(wel, wip) as u16 + self.high_byte() as u16 * 256
+        u16::from_le_bytes([self.low_byte(wel, wip), self.high_byte()])
     }
 }

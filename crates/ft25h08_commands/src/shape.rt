@@ -1,13 +1,11 @@
 // The shape of a frame for each command code: which codes there are, how many bytes their frames have, and where
 // odd bits are allowed.
-ghost use Rattle.std.specs.Prelude.{◌≡◌, ℕ};
-ghost use Rattle.ft25h08_commands.specs.Shapes.{shape_of, table, is_listed, fits};
+ghost use Rattle.std.specs.Prelude.{◌≡◌, ℕ, Some};
+ghost use Rattle.ft25h08_commands.specs.Shapes.{shape_of, table, fits};
 
 /// What a frame of a command looks like.
 #[derive(Clone, Copy)]
 pub enum Shape {
-    /// not a command
-    Unlisted,
     /// the code alone
     Code,
     /// the code, then any number of bytes; odd bits allowed
@@ -24,24 +22,25 @@ pub enum Shape {
     AddressData,
 }
 
-const N: Shape = Shape::Unlisted;
+// not a command
+const N: Option<Shape> = None;
 
-const C: Shape = Shape::Code;
+const C: Option<Shape> = Some(Shape::Code);
 
-const V: Shape = Shape::CodeRead;
+const V: Option<Shape> = Some(Shape::CodeRead);
 
-const S: Shape = Shape::CodeStatus;
+const S: Option<Shape> = Some(Shape::CodeStatus);
 
-const A: Shape = Shape::Address;
+const A: Option<Shape> = Some(Shape::Address);
 
-const R: Shape = Shape::AddressRead;
+const R: Option<Shape> = Some(Shape::AddressRead);
 
-const F: Shape = Shape::AddressDummyRead;
+const F: Option<Shape> = Some(Shape::AddressDummyRead);
 
-const D: Shape = Shape::AddressData;
+const D: Option<Shape> = Some(Shape::AddressData);
 
 // The row is the high digit of the code, the column the low one.
-const SHAPES: [[Shape; 16]; 16] = [
+const SHAPES: [[Option<Shape>; 16]; 16] = [
     [N, S, D, R, C, V, C, N, N, N, N, F, N, N, N, N], // 00
     [N, N, N, N, N, N, N, N, N, N, N, N, N, N, N, N], // 10
     [A, N, N, N, N, N, N, N, N, N, N, N, N, N, N, N], // 20
@@ -61,34 +60,26 @@ const SHAPES: [[Shape; 16]; 16] = [
 ];
 
 // An entry of a table that passes the one test: it is the rule at every code.
-fn entry(shapes: &[[Shape; 16]; 16], code: u8) -> Shape
+fn entry(shapes: &[[Option<Shape>; 16]; 16], code: u8) -> Option<Shape>
     requires { shapes.now ≡ table shape_of }
     ensures { result ≡ shape_of code }
 {
     shapes[code as usize / 16][code as usize % 16]
 }
 
-/// The shape that goes with a code.
-pub(crate) fn shape_of(code: u8) -> Shape
+/// The shape that goes with a code, if it is a command at all.
+pub(crate) fn shape_of(code: u8) -> Option<Shape>
     ensures { result ≡ shape_of code }
 {
     entry(&SHAPES, code)
 }
 
 impl Shape {
-    /// Whether the code is a command at all.
-    pub(crate) fn is_listed(self) -> bool
-        ensures { result ≡ is_listed self }
-    {
-        !matches!(self, Shape::Unlisted)
-    }
-
     /// Whether a frame of `n` bytes and `odd` further bits has this shape.
     pub(crate) fn fits(self, n: usize, odd: u8) -> bool
-        ensures { result ≡ fits self n odd }
+        ensures { result ≡ fits (Some self) n odd }
     {
         match self {
-            Shape::Unlisted => false,
             Shape::Code => n == 1 && odd == 0,
             Shape::CodeRead => n >= 1,
             Shape::CodeStatus => (n == 2 || n == 3) && odd == 0,

@@ -3,8 +3,8 @@ use Rattle.std.proofs.Common.{◌≡◌, ℕ, ◌+◌, ◌≤◌, Bool, true, fa
 use Rattle.std.proofs.lemmas.Bool.{cond-false, true≢false, cases_Bool}
 use Rattle.std.proofs.lemmas.Bool.Decides.{nat_tests}
 use Rattle.ft25h08_commands.specs.Frames.{address_of}
-use Rattle.ft25h08_commands.specs.Protection.{any_in}
-use Rattle.ft25h08_commands.proofs.Spans.{any_gives, any_from}
+use Rattle.cells.specs.Tests.{any_in}
+use Rattle.cells.proofs.Spans.{any_gives, any_from}
 use Rattle.ft25h08_commands.specs.Rules.{touches_protected}
 use Rattle.ft25h08_commands.specs.declared.admission.FrameRefusal.{FrameRefusal}
 use Rattle.ft25h08_commands.specs.declared.admission.FrameRefusal.TheVariants as refusal

@@ -10,7 +10,8 @@ use Rattle.flash.specs.Meaning.{Meaning, program_started, erase_started}
 use Rattle.flash.specs.declared.in_progress.InProgress.{InProgress}
 use Rattle.flash.specs.declared.refusal.FlashRefusal.{FlashRefusal}
 use Rattle.flash.specs.declared.refusal.FlashRefusal.TheVariants.{Range, Busy, Protected}
-use Rattle.ft25h08_commands.specs.Protection.{any_in, protected_by}
+use Rattle.cells.specs.Tests.{any_in}
+use Rattle.ft25h08_commands.specs.Protection.{protected_by}
 use Rattle.ft25h08_commands.specs.Rules.{touches_protected, start_of}
 use Rattle.ft25h08_commands.specs.Sizes.{is_capacity}
 use Rattle.ft25h08_commands.proofs.Sizing.{capacity_whole}

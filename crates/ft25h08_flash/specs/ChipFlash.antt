@@ -12,7 +12,8 @@ use Rattle.ft25h08.specs.declared.activity.Activity.{Activity}
 use Rattle.ft25h08.specs.declared.activity.Activity.TheVariants.{Idle, Asleep, Changing}
 use Rattle.ft25h08.specs.declared.activity.Change.{Change}
 use Rattle.ft25h08.specs.declared.activity.Change.TheVariants.{Program, Erase, ProgramSecurity, EraseSecurity, WriteStatus}
-use Rattle.ft25h08_commands.specs.Protection.{any_in, protected_by}
+use Rattle.cells.specs.Tests.{any_in}
+use Rattle.ft25h08_commands.specs.Protection.{protected_by}
 use Rattle.ft25h08_commands.specs.Rules.{start_of}
 use Rattle.ft25h08_commands.specs.declared.settings.Settings.{Settings}
 

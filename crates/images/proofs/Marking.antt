@@ -2,7 +2,7 @@
 use Rattle.std.proofs.Common.{◌≡◌, ℕ, ◌+◌, ◌*◌, min, max, Bool, ltb, List, map, length, sym, refl, ap, ◌∙◌}
 use lib.ListN.{length-replicate}
 use Rattle.std.specs.List.{range_with_len}
-use Rattle.ft25h08_commands.proofs.Spans.{meets_any}
+use Rattle.cells.proofs.Spans.{meets_any}
 use Rattle.ft25h08_commands.specs.Protection.{protected_by}
 use Rattle.ft25h08.specs.Birth.{newborn}
 use Rattle.ft25h08.specs.Counts.{bench_ticks}

@@ -50,7 +50,7 @@ fn set_pin(chip: &mut Ft25h08, level: u8) -> u8
 {
     match chip.set_wp_pin(level) {
         Ok(()) => 0,
-        Err(refusal) => refusal.number(),
+        Err(refusal) => u8::from(refusal),
     }
 }
 
@@ -61,7 +61,7 @@ fn cut(chip: &mut Ft25h08, junk: u8) -> u8
 {
     match chip.power_cut(&[junk]) {
         Ok(()) => 0,
-        Err(refusal) => refusal.number(),
+        Err(refusal) => u8::from(refusal),
     }
 }
 
@@ -90,7 +90,7 @@ fn answer_frame(
 {
     match chip.frame(frame, odd, answer) {
         Ok(()) => out.push_line(line, 0, answer),
-        Err(refusal) => out.push_line(line, refusal.number(), shown(refusal, answer)),
+        Err(refusal) => out.push_line(line, u8::from(refusal), shown(refusal, answer)),
     }
 }
 

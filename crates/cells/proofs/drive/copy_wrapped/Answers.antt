@@ -19,11 +19,6 @@ loop-pos-preserved c =
           c.loop-pos.invariant.1,
     )
 
-pub loop-pos-smaller : goal.loop-pos-smaller
-loop-pos-smaller c =
-    let b = mod_below (c.args.at + c.loop-pos.pos) (length c.args.cells.now) c.requires.some in
-    omega arith
-
 pub returns : goal.returns
 returns c =
     counted_all (λ k. wrapped c.args.cells.now (c.args.at + k)) (length c.args.part.now) c.loop-pos.part (search rules)

@@ -1,5 +1,5 @@
 use Rattle.std.proofs.Common.{◌≡◌, ℕ, List, [], ◌∷◌, sym, refl, ap, ◌∙◌}
-use Rattle.ft25h08_commands.specs.Protection.{any_in}
+use Rattle.cells.specs.Tests.{any_in}
 use Rattle.ft25h08_commands.specs.Rules.{touches_protected}
 use Rattle.ft25h08_commands.specs.Status.{written, cleared}
 use Rattle.ft25h08.specs.Birth.{newborn}

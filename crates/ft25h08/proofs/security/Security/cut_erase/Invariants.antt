@@ -5,5 +5,5 @@ use Rattle.ft25h08.specs.Registers.{security_of}
 use Rattle.ft25h08.proofs.security.Security.cut_erase.Given as goal
 
 -- the registers before this one are done
-abbrev pub invariant-loop-register : goal.invariant-loop-register
-invariant-loop-register l = security_of l.self ≡ changed 0 (l.register * 256) (cut_while_erasing l.junk) (security_of l.initial.self)
+abbrev pub invariant-loop-r : goal.invariant-loop-r
+invariant-loop-r l = security_of (record { registers = l.register-items }) ≡ changed 0 (l.r * 256) (cut_while_erasing l.junk) (security_of (record { registers = l.initial.register-items }))

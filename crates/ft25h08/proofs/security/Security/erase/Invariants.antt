@@ -6,4 +6,4 @@ use Rattle.ft25h08.proofs.security.Security.erase.Given as goal
 
 -- the registers before this one are done
 abbrev pub invariant-loop-register : goal.invariant-loop-register
-invariant-loop-register l = security_of l.self ≡ changed 0 (l.register * 256) erased (security_of l.initial.self)
+invariant-loop-register l = security_of (record { registers = l.register-items }) ≡ changed 0 (l.register-index * 256) erased (security_of (record { registers = l.initial.register-items }))
