@@ -23,8 +23,9 @@ fn newborn_over(array: Vec<u8>) -> anyhow::Result<Bench>
     ensures { IfOk result (λ b. bench_of b ≡ on_bench (newborn array.items bench_ticks)) }
 {
     let ticks = Ticks::bench();
-    Ft25h08::birth_refusal(array.len(), ticks)
-        .map_err(|_| anyhow!("no chip can be born over this array"))?;
+    Ft25h08::birth_refusal(array.len(), ticks).map_err(|_| anyhow!(
+        "no chip can be born over this array"
+    ))?;
     Ok(Bench::new(Ft25h08::new(array, ticks)))
 }
 

@@ -1,6 +1,6 @@
 // What each record does on the bench.
-ghost use Rattle.std.specs.Prelude.{◌≡◌, ℕ, ◌*◌, ◌≤◌, true, false, [], ◌∷◌, ◌++◌, length, OnOk};
-ghost use Rattle.ft25h08.specs.Frame.{frame_after, by_size};
+ghost use Rattle.std.specs.Prelude.{◌≡◌, ℕ, ◌*◌, ◌≤◌, true, false, [], ◌∷◌, ◌++◌, length, MatchResult, OnOk};
+ghost use Rattle.ft25h08.specs.Frame.{frame_after};
 ghost use Rattle.ft25h08.specs.Pin.{pin_after};
 ghost use Rattle.ft25h08.specs.PowerCut.{cut_after};
 ghost use Rattle.ft25h08.specs.Queries.{busy_in, status_of};
@@ -8,7 +8,7 @@ ghost use Rattle.ft25h08.specs.State.{chip_of};
 ghost use Rattle.ft25h08.specs.Tick.{tick_after};
 ghost use Rattle.bench.specs.Clocked.{Clocked};
 ghost use Rattle.bench.specs.Gathered.{text_of};
-ghost use Rattle.bench.specs.Plays.{allowed, Played, ticked, frame_number, frame_shown, pin_number_of, cut_number_of, on_bench};
+ghost use Rattle.bench.specs.Plays.{allowed, Played, ticked, frame_number, frame_shown, shown_by, pin_number_of, cut_number_of, on_bench};
 ghost use Rattle.bench.specs.States.{bench_of};
 ghost use Rattle.bench.specs.Texts.{line_text};
 
@@ -43,35 +43,23 @@ fn pass_ticks(chip: &mut Ft25h08, count: u16)
     }
 }
 
-// The WP# pin is put to a level: the number of the answer.
-fn set_pin(chip: &mut Ft25h08, level: u8) -> u8
-    ensures answer { result ≡ pin_number_of level }
-    ensures after { chip_of chip.new ≡ pin_after level (chip_of chip.old) }
+// The number of an answer: 0 where it was accepted.
+fn number_of<E: Into<u8>>(answer: Result<(), E>) -> u8
+    ensures { MatchResult answer (λ _. result ≡ 0) (λ refusal. E.converts refusal result) }
 {
-    match chip.set_wp_pin(level) {
+    match answer {
         Ok(()) => 0,
-        Err(refusal) => u8::from(refusal),
+        Err(refusal) => refusal.into(),
     }
 }
 
-// The power fails: the number of the answer.
-fn cut(chip: &mut Ft25h08, junk: u8) -> u8
-    ensures answer { result ≡ cut_number_of junk (chip_of chip.old) }
-    ensures after { chip_of chip.new ≡ cut_after (junk ∷ []) (chip_of chip.old) }
+// What is shown of the answer buffer: nothing of it where the frame was refused for its size.
+fn shown(answer: Result<(), FrameRefusal>, buffer: &[u8]) -> &[u8]
+    ensures { result.now ≡ shown_by answer buffer.now buffer.now }
 {
-    match chip.power_cut(&[junk]) {
-        Ok(()) => 0,
-        Err(refusal) => u8::from(refusal),
-    }
-}
-
-// What is shown of the answer to a refused frame: nothing where it was refused for its size.
-fn shown(refusal: FrameRefusal, answer: &[u8]) -> &[u8]
-    ensures { result.now ≡ by_size refusal [] answer.now }
-{
-    match refusal {
-        FrameRefusal::Size => &[],
-        _ => answer,
+    match answer {
+        Err(FrameRefusal::Size) => &[],
+        _ => buffer,
     }
 }
 
@@ -80,18 +68,16 @@ fn answer_frame(
     chip: &mut Ft25h08,
     frame: &[u8],
     odd: u8,
-    answer: &mut [u8],
+    buffer: &mut [u8],
     line: u64,
     out: &mut Text,
 ) -> Result<(), AllocError>
-    requires { length answer.old ≡ length frame.now }
+    requires { length buffer.old ≡ length frame.now }
     ensures after { chip_of chip.new ≡ frame_after (chip_of chip.old) frame.now odd (length frame.now) }
     ensures text { OnOk result (text_of out.new ≡ text_of out.old ++ line_text line (frame_number (chip_of chip.old) frame.now odd) (frame_shown (chip_of chip.old) frame.now odd)) }
 {
-    match chip.frame(frame, odd, answer) {
-        Ok(()) => out.push_line(line, 0, answer),
-        Err(refusal) => out.push_line(line, u8::from(refusal), shown(refusal, answer)),
-    }
+    let answer = chip.frame(frame, odd, buffer);
+    out.push_line(line, number_of(answer), shown(answer, buffer))
 }
 
 impl Bench {
@@ -178,11 +164,11 @@ impl Bench {
                 out.push_line(line, 0, &[])
             }
             Record::WpPin { level } => {
-                let number = set_pin(&mut self.chip, level);
+                let number = number_of(self.chip.set_wp_pin(level));
                 out.push_line(line, number, &[])
             }
             Record::PowerCut { junk } => {
-                let number = cut(&mut self.chip, junk);
+                let number = number_of(self.chip.power_cut(&[junk]));
                 out.push_line(line, number, &[])
             }
         }

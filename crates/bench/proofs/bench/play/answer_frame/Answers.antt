@@ -1,43 +1,18 @@
-use Rattle.std.proofs.Common.{ℕ, List, [], ◌++◌, ap, ◌∙◌}
-use Rattle.ft25h08.specs.Frame.{frame_after, by_size}
+use Rattle.std.proofs.Common.{ℕ, List, ◌++◌, ap, ◌∙◌}
 use Rattle.ft25h08.specs.State.{chip_of}
 use Rattle.bench.specs.Gathered.{text_of}
 use Rattle.bench.specs.Texts.{line_text}
-use Rattle.bench.proofs.Answering.{accepted_line, refused_line}
+use Rattle.bench.proofs.Answering.{line_of}
 use Rattle.bench.proofs.Appending.{still_made}
 use Rattle.bench.proofs.bench.play.answer_frame.Goals as goal
 
-pub returns-in-Ok : goal.returns-in-Ok
-returns-in-Ok c =
-    let chip = chip_of c.args.chip.now in
-    let frame = c.args.frame.now in
-    let odd = c.args.odd in
+pub returns-clause-text : goal.returns-clause-text
+returns-clause-text c =
     let t = text_of c.args.out.now in
-    record {
-      after = c.frame.ensures.after ∙ ap (λ (n : ℕ). frame_after chip frame odd n) c.requires;
-      text =
-          still_made c.push_line.result
-          (λ _ e. e ∙ ap (λ (xs : List ℕ). t ++ xs) (accepted_line chip frame odd c.args.answer.now c.frame.new.answer c.args.line c.requires c.in-Ok.ensures.answer c.frame.ensures.driven))
-          c.push_line.ensures;
-    }
-
-pub returns-in-Err : goal.returns-in-Err
-returns-in-Err c =
-    let chip = chip_of c.args.chip.now in
-    let frame = c.args.frame.now in
-    let odd = c.args.odd in
-    let t = text_of c.args.out.now in
-    let r = c.in-Err.refusal in
-    let line = c.args.line in
-    let buffer = c.frame.new.answer in
-    record {
-      after = c.frame.ensures.after ∙ ap (λ (n : ℕ). frame_after chip frame odd n) c.requires;
-      text =
-          still_made c.push_line-in-Err.result
-          (λ _ e.
-          e
-          ∙ ap (λ (xs : List ℕ). t ++ line_text line c.number.result xs) c.shown.ensures
-          ∙ ap (λ (n : ℕ). t ++ line_text line n (by_size r [] buffer)) c.number.ensures
-          ∙ ap (λ (xs : List ℕ). t ++ xs) (refused_line r chip frame odd c.args.answer.now buffer line c.requires c.in-Err.ensures.answer c.frame.ensures.driven))
-          c.push_line-in-Err.ensures;
-    }
+    let buffer = c.frame-answer.new.answer in
+    still_made c.push_line.result
+    (λ _ e.
+    e
+    ∙ ap (λ (xs : List ℕ). t ++ line_text c.args.line c.number_of.result xs) c.shown.ensures
+    ∙ ap (λ (xs : List ℕ). t ++ xs) (line_of c.frame-answer.result c.number_of.result (chip_of c.args.chip.now) c.args.frame.now c.args.odd c.args.buffer.now buffer c.args.line c.requires c.frame-answer.ensures.answer c.number_of.ensures c.frame-answer.ensures.driven))
+    c.push_line.ensures
