@@ -36,8 +36,8 @@ returns-in-Err c =
           still_made c.push_line-in-Err.result
           (λ _ e.
           e
-          ∙ ap (λ (xs : List ℕ). t ++ line_text line c.number.result xs) c.shown.ensures
-          ∙ ap (λ (n : ℕ). t ++ line_text line n (by_size r [] buffer)) c.number.ensures
+          ∙ ap (λ (xs : List ℕ). t ++ line_text line c.from.result xs) c.shown.ensures
+          ∙ ap (λ (n : ℕ). t ++ line_text line n (by_size r [] buffer)) c.from.ensures
           ∙ ap (λ (xs : List ℕ). t ++ xs) (refused_line r chip frame odd c.args.answer.now buffer line c.requires c.in-Err.ensures.answer c.frame.ensures.driven))
           c.push_line-in-Err.ensures;
     }
