@@ -1,9 +1,6 @@
 -- Each tick count of a chip is at least 1.
 use Rattle.std.proofs.Common.{◌≡◌, true, ltb}
 use Rattle.std.proofs.lemmas.Bool.{and_parts}
-use Rattle.ft25h08_commands.specs.declared.command.EraseSize.{EraseSize}
-use Rattle.ft25h08_commands.specs.declared.command.EraseSize.TheVariants.{Sector, Block32, Block64}
-use Rattle.ft25h08.specs.Accepted.{erase_ticks}
 use Rattle.ft25h08.specs.Counts.{all_count}
 use Rattle.ft25h08.specs.declared.ticks.Ticks.{Ticks}
 
@@ -24,8 +21,3 @@ each_count t h =
     let e = and_parts (ltb 0 t.erase_block32) _ d.1 in
     let f = and_parts (ltb 0 t.erase_block64) _ e.1 in
     record { status = a.0; program = b.0; sector = d.0; block32 = e.0; block64 = f.0; chip = f.1 }
-
-pub erase_counts : (t : Ticks) (size : EraseSize) → all_count t ≡ true → ltb 0 (erase_ticks t size) ≡ true
-erase_counts t Sector h = (each_count t h).sector
-erase_counts t Block32 h = (each_count t h).block32
-erase_counts t Block64 h = (each_count t h).block64

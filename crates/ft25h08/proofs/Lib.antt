@@ -1,3 +1,2 @@
 pub mod Registering
 pub mod Counting
-pub mod Interrupting

@@ -37,6 +37,7 @@ impl Ticks {
     }
 
     /// Whether each count is at least 1.
+    #[tactic(auto, unfolding(crate::specs::Counts::all_count))]
     pub fn all_count(self) -> bool
         ensures { result ≡ all_count self }
     {

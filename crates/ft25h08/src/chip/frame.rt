@@ -89,6 +89,7 @@ impl Ft25h08 {
     }
 
     // What an accepted frame does depends on the activity and the command together.
+    #[tactic(auto, unfolding(crate::specs::Counts::all_count))]
     fn act(&mut self, command: Command, frame: &[u8])
         ensures { chip_of self.new ≡ acted command frame.now (chip_of self.old) }
     {

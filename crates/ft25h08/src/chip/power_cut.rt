@@ -25,6 +25,7 @@ impl Ft25h08 {
     }
 
     // The change ends half done.
+    #[tactic(auto, using(std::proofs::lemmas::List::with_items_is, cells::proofs::Ranges::changed_from_zero))]
     fn interrupt(&mut self, change: Change, junk: &[u8])
         requires { 0 < length junk.now }
         ensures { chip_of self.new ≡ interrupted junk.now change (chip_of self.old) }

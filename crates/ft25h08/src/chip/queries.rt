@@ -36,6 +36,7 @@ impl Ft25h08 {
     }
 
     /// The security byte at a security address, where there is one.
+    #[tactic(auto, using(crate::proofs::Registering::security_byte_lem))]
     pub fn security_byte(&self, at: usize) -> Option<u8>
         ensures { result ≡ byte_at (chip_of self.now).security at }
     {
