@@ -21,7 +21,7 @@ impl fmt::Display for Outcome {
             Outcome::Holds { byte } => write!(f, "byte {byte:02x}"),
             Outcome::Marked { protected } => write!(f, "protected {protected}"),
             Outcome::Refused { why } => {
-                let number = why.number();
+                let number = u8::from(why);
                 write!(f, "refused {number}")
             }
         }
