@@ -1,5 +1,5 @@
 // An image of a flash in memory.
-ghost use Rattle.std.specs.Prelude.{◌≡◌, ℕ, ◌*◌, ◌<◌, ◌≤◌, vec_len};
+ghost use Rattle.std.specs.Prelude.{◌≡◌, ◌*◌, ◌<◌, ◌≤◌, vec_len};
 
 use crate::tallies::Tallies;
 use arrayvec::ArrayVec;

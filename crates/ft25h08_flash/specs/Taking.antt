@@ -1,13 +1,12 @@
 -- A chip as a flash: its marks, what always holds of it, and what a tick makes of it.
-use Rattle.std.specs.Prelude.{◌≡◌, ℕ, ◌+◌, ◌-◌, ◌*◌, ◌/◌, ◌%◌, ◌<◌, ◌≤◌, Bool, true, false, cond, not, ◌&&◌, List, length, Ok, Err, ◌==◌, nat_lt, slice_index_or, refl}
-use Rattle.std.proofs.Common.{sym, ap, subst, ◌∙◌, arith}
+use Rattle.std.specs.Prelude.{◌≡◌, ℕ, ◌-◌, ◌/◌, ◌<◌, ◌≤◌, Bool, true, false, cond, List, length, Ok, Err, ◌==◌, nat_lt, slice_index_or, refl}
+use Rattle.std.proofs.Common.{sym, ap, ◌∙◌, arith}
 use Rattle.std.proofs.lemmas.List.FromFn.{length-map-range_with_len, get_or-map-range_with_len}
 use Rattle.std.proofs.lemmas.Bool.{and_parts, ltb-true, eqb-true, true≢false, cond-true, cond-false, lt-ltb, le-ltb}
 use Rattle.flash.specs.declared.refusal.FlashRefusal.TheVariants.{Range}
-use Rattle.std.proofs.lemmas.Bool.Decides.{nat_tests}
 use Rattle.cells.specs.Changes.{programmed, erased}
 use Rattle.cells.proofs.Ranges.{length-changed}
-use Rattle.flash.specs.Meaning.{Meaning, Sound, after_tick}
+use Rattle.flash.specs.Meaning.{Sound, after_tick}
 use Rattle.ft25h08_commands.specs.Sizes.{is_capacity}
 use Rattle.ft25h08_commands.specs.declared.settings.Settings.{Settings}
 use Rattle.ft25h08_commands.proofs.Sizing.{capacity_some, capacity_most, capacity_whole}

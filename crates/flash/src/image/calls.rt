@@ -1,5 +1,5 @@
 // What an image does.
-ghost use Rattle.std.specs.Prelude.{◌≡◌, ℕ, ◌≤◌, length, None, Some, Ok, vec_len, ◌==◌};
+ghost use Rattle.std.specs.Prelude.{◌≡◌, length, None, Some, Ok, vec_len, ◌==◌};
 ghost use Rattle.flash.specs.Answers.{image_answer};
 ghost use Rattle.flash.specs.Images.{image_meaning, image_most};
 ghost use Rattle.flash.specs.Pendings.{landed, meaning_of};
