@@ -14,7 +14,7 @@ use Rattle.ft25h08.specs.Accepted.{starts}
 use Rattle.ft25h08.specs.Chip.{Chip, with_enable, conditions_of}
 use Rattle.ft25h08_flash.specs.ChipFlash.{sector_mark, chip_meaning, page_at, sector_at}
 use Rattle.ft25h08_flash.specs.Taken.{flash_meaning, taken_whole}
-use Rattle.ft25h08_flash.specs.Taking.{length_marks}
+use Rattle.ft25h08_flash.specs.Taking.{length_marks, get_or_marks}
 use Rattle.ft25h08_flash.specs.declared.taken.Ft25h08Flash.{Ft25h08Flash}
 use Rattle.ft25h08_flash.proofs.Sending.{none_inside}
 
@@ -30,7 +30,18 @@ in_place at n end h =
     let rest = and_parts (leb (at % 256 + n) 256) _ some.1 in
     record { some = leb-true 1 n some.0; fits = leb-true (at % 256 + n) 256 rest.0; inside = leb-true (at + n) end rest.1 }
 
--- its sector has a mark
+-- a sector that there is begins below the end
+pub sector_inside : (f : Ft25h08Flash) (sector : ℕ) → sector < length (flash_meaning f).marks → sector * 4096 < length (flash_meaning f).bytes
+sector_inside f sector there = let l = length_marks f.chip.settings (length (flash_meaning f).bytes) in omega arith
+
+-- its mark is what the settings say
+pub sector_marked : (f : Ft25h08Flash) (sector : ℕ) → sector < length (flash_meaning f).marks → get_or (flash_meaning f).marks sector false ≡ sector_mark f.chip.settings sector
+sector_marked f sector there =
+    let size = length (flash_meaning f).bytes in
+    let l = length_marks f.chip.settings size in
+    get_or_marks f.chip.settings size sector (omega arith)
+
+-- a program in its place lies in a sector that there is
 pub sector_there : (f : Ft25h08Flash) (at n : ℕ) → in_page at n (length (flash_meaning f).bytes) ≡ true → at / 4096 < length (flash_meaning f).marks
 sector_there f at n h =
     let bytes = (flash_meaning f).bytes in

@@ -68,6 +68,13 @@ impl Ft25h08Flash {
         any_protected(self.chip.settings(), sector as u32 * 4096, 4096)
     }
 
+    // The mark of a sector; past the last there is none.
+    fn mark_of(&self, sector: usize) -> bool
+        ensures { result ≡ slice_index_or (flash_meaning self.now).marks sector false }
+    {
+        sector < self.sectors() && self.is_marked(sector)
+    }
+
     // Sends the frames of a program that nothing is in the way of.
     fn send_program(&mut self, at: usize, new: &[u8]) -> InProgress
         requires place { in_page at (length new.now) (length (flash_meaning self.old).bytes) ≡ true }
@@ -142,7 +149,7 @@ impl NorFlash for Ft25h08Flash {
         if !fits_page(at, new.len(), self.chip.capacity()) {
             return Err(FlashRefusal::Range);
         }
-        start_refusal(self.is_ready(), self.is_protected(at / 4096)?)?;
+        start_refusal(self.is_ready(), self.mark_of(at / 4096))?;
         Ok(self.send_program(at, new))
     }
 
@@ -159,7 +166,7 @@ impl NorFlash for Ft25h08Flash {
         if sector >= self.sectors() {
             return Err(FlashRefusal::Range);
         }
-        Ok(self.is_marked(sector))
+        Ok(self.mark_of(sector))
     }
 
     fn program_ticks(&self) -> u16 {

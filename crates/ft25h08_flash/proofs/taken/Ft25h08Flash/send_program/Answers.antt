@@ -4,8 +4,7 @@ use Rattle.ft25h08.specs.Accepted.{starts}
 use Rattle.ft25h08.specs.Chip.{Chip, with_enable, conditions_of}
 use Rattle.ft25h08.specs.State.{chip_of}
 use Rattle.ft25h08_flash.specs.ChipFlash.{chip_meaning, page_at}
-use Rattle.ft25h08_flash.proofs.Starting.{in_place, sector_there, program_free, program_means}
-use Rattle.ft25h08_flash.specs.Taking.{length_marks, get_or_marks}
+use Rattle.ft25h08_flash.proofs.Starting.{in_place, sector_there, sector_marked, program_free, program_means}
 use Rattle.ft25h08_flash.proofs.taken.Ft25h08Flash.send_program.Goals as goal
 
 pub start_program-requires-clause-free : goal.start_program-requires-clause-free
@@ -13,10 +12,10 @@ start_program-requires-clause-free c =
     let f = c.args.self.now in
     let x = chip_of f.chip in
     let at = c.args.at in
-    let l = length_marks x.settings (length x.array) in
+    let place = in_place at (length c.args.new.now) (length x.array) c.requires.place in
     let there = sector_there f at (length c.args.new.now) c.requires.place in
     ap (λ (y : Chip). touches_protected (conditions_of y) (length y.array) 2 at) c.enable.ensures
-    ∙ program_free (with_enable true x) at (omega arith) (sym (get_or_marks x.settings (length x.array) (at / 4096) (omega arith)) ∙ c.requires.free)
+    ∙ program_free (with_enable true x) at (omega arith) (sym (sector_marked f (at / 4096) there) ∙ c.requires.free)
 
 pub returns-clause-after : goal.returns-clause-after
 returns-clause-after c =
