@@ -22,6 +22,10 @@ abbrev pub start_answer : Bool → ℕ → Meaning → Result InProgress FlashRe
 start_answer in_place sector m =
     cond in_place (cond (m.left == 0) (cond (slice_index_or m.marks sector false) (Err Protected) (Ok fresh)) (Err Busy)) (Err Range)
 
+-- what is in the way of a start in its place: not ready, then protected
+abbrev pub start_refusal : Bool → Bool → Result (Unit {0}) FlashRefusal
+start_refusal ready protected = cond ready (cond protected (Err Protected) (Ok tt)) (Err Busy)
+
 abbrev pub program_answer : ℕ → ℕ → Meaning → Result InProgress FlashRefusal
 program_answer at n m = start_answer (in_page at n (length m.bytes)) (at / 4096) m
 

@@ -6,7 +6,7 @@ use Rattle.flash.specs.Pendings.{meaning_of}
 use Rattle.flash.specs.declared.image.Image.{Image}
 
 abbrev pub image_meaning : Image → Meaning
-image_meaning im = meaning_of im.pending (vec_items im.bytes) (vec_items im.marks) im.programs im.erases
+image_meaning im = meaning_of im.pending (vec_items im.bytes) (vec_items im.marks) im.tallies.programs im.tallies.erases
 
 -- at most 256 sectors
 pub image_most : (im : Image) → length (vec_items im.bytes) ≤ 1048576

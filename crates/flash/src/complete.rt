@@ -15,13 +15,9 @@ pub fn program_and_wait<F: NorFlash>(
     ensures answer { result ≡ completed (program_answer at (length new.now) (F.NorFlash.meaning flash.old)) (F.NorFlash.meaning flash.old).program_ticks }
     ensures after { F.NorFlash.meaning flash.new ≡ program_completed (program_answer at (length new.now) (F.NorFlash.meaning flash.old)) at new.now (F.NorFlash.meaning flash.old) }
 {
-    match flash.program(at, new) {
-        Ok(mut change) => {
-            let ticks = wait(flash, &mut change);
-            Ok(ticks)
-        }
-        Err(refusal) => Err(refusal),
-    }
+    let mut change = flash.program(at, new)?;
+    let ticks = wait(flash, &mut change);
+    Ok(ticks)
 }
 
 /// Erases a sector, and waits until that has landed. Answers how many ticks it took.
@@ -29,11 +25,7 @@ pub fn erase_and_wait<F: NorFlash>(flash: &mut F, sector: usize) -> Result<u32, 
     ensures answer { result ≡ completed (erase_answer sector (F.NorFlash.meaning flash.old)) (F.NorFlash.meaning flash.old).erase_ticks }
     ensures after { F.NorFlash.meaning flash.new ≡ erase_completed (erase_answer sector (F.NorFlash.meaning flash.old)) sector (F.NorFlash.meaning flash.old) }
 {
-    match flash.erase_sector(sector) {
-        Ok(mut change) => {
-            let spent = wait(flash, &mut change);
-            Ok(spent)
-        }
-        Err(refusal) => Err(refusal),
-    }
+    let mut change = flash.erase_sector(sector)?;
+    let spent = wait(flash, &mut change);
+    Ok(spent)
 }

@@ -1,22 +1,18 @@
 // An image of a flash in memory.
-ghost use Rattle.std.specs.Prelude.{◌≡◌, ℕ, ◌*◌, ◌<◌, ◌≤◌, vec_len};
+ghost use Rattle.std.specs.Prelude.{◌≡◌, ◌*◌, ◌<◌, ◌≤◌, vec_len};
+
+use crate::tallies::Tallies;
+use arrayvec::ArrayVec;
 
 mod calls;
 
 /// What an image has under way.
-#[derive(Clone, Copy)]
+#[derive(Drop)]
 pub enum Pending {
-    Nothing,
-    /// the first `count` of these bytes are to be ANDed in at an address
-    Program {
-        at: usize,
-        count: usize,
-        new: [u8; 256],
-    },
+    /// these bytes are to be ANDed in at an address
+    Program { at: usize, new: ArrayVec<u8, 256> },
     /// the sector from this address on is to become FF
-    Erase {
-        first: usize,
-    },
+    Erase { first: usize },
 }
 
 /// An image of a flash in memory, with a yes/no mark for each sector. A program or an erase takes one tick.
@@ -24,12 +20,9 @@ pub enum Pending {
 pub struct Image {
     bytes: Vec<u8>,
     marks: Vec<bool>,
-    pending: Pending,
-    programs: u32,
-    erases: u32,
+    pending: Option<Pending>,
+    tallies: Tallies,
     ghost whole: { vec_len bytes ≡ 4096 * vec_len marks },
     ghost some: { 0 < vec_len marks },
     ghost most: { vec_len marks ≤ 256 },
-    ghost few_programs: { programs < 4294967296 },
-    ghost few_erases: { erases < 4294967296 },
 }

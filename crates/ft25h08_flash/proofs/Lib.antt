@@ -1,3 +1,2 @@
-pub mod Framing
 pub mod Sending
 pub mod Starting

@@ -1,42 +1,23 @@
--- The start of a change on a taken chip: its answer, why the chip accepts it, and what it means.
-use Rattle.std.proofs.Common.{◌≡◌, ℕ, ◌+◌, ◌-◌, ◌*◌, ◌/◌, ◌%◌, ◌<◌, ◌≤◌, Bool, true, false, cond, eqb, leb, List, length, get_or, Ok, Err, Result, sym, ap, ◌∙◌, mod-eq_of_lt, arith}
-use Rattle.std.proofs.lemmas.Bool.{and_parts, leb-true, cond-true, cond-false}
+-- The start of a change on a taken chip: why the chip accepts it, and what it means.
+use Rattle.std.proofs.Common.{◌≡◌, ℕ, ◌+◌, ◌-◌, ◌*◌, ◌/◌, ◌%◌, ◌<◌, ◌≤◌, true, false, leb, List, length, get_or, ap, ◌∙◌, mod-eq_of_lt, arith}
+use Rattle.std.proofs.lemmas.Bool.{and_parts, leb-true}
 use Rattle.cells.specs.Bytes.{changed}
 use Rattle.cells.specs.Changes.{programmed, erased}
 use Rattle.cells.specs.Latch.{latched}
 use Rattle.cells.proofs.Latching.{page_anded}
-use Rattle.flash.specs.Answers.{in_page, start_answer, fresh}
-use Rattle.flash.specs.Meaning.{Meaning, program_started, erase_started}
-use Rattle.flash.specs.declared.in_progress.InProgress.{InProgress}
-use Rattle.flash.specs.declared.refusal.FlashRefusal.{FlashRefusal}
-use Rattle.flash.specs.declared.refusal.FlashRefusal.TheVariants.{Range, Busy, Protected}
+use Rattle.flash.specs.Answers.{in_page}
+use Rattle.flash.specs.Meaning.{program_started, erase_started}
 use Rattle.cells.specs.Tests.{any_in}
 use Rattle.ft25h08_commands.specs.Protection.{protected_by}
 use Rattle.ft25h08_commands.specs.Rules.{touches_protected, start_of}
-use Rattle.ft25h08_commands.specs.Sizes.{is_capacity}
 use Rattle.ft25h08_commands.proofs.Sizing.{capacity_whole}
 use Rattle.ft25h08.specs.Accepted.{starts}
 use Rattle.ft25h08.specs.Chip.{Chip, with_enable, conditions_of}
-use Rattle.ft25h08_flash.specs.ChipFlash.{sector_mark, marks_of, chip_meaning, page_at, sector_at}
-use Rattle.ft25h08_flash.specs.Taking.{length_marks}
+use Rattle.ft25h08_flash.specs.ChipFlash.{sector_mark, chip_meaning, page_at, sector_at}
+use Rattle.ft25h08_flash.specs.Taken.{flash_meaning, taken_whole}
+use Rattle.ft25h08_flash.specs.Taking.{length_marks, get_or_marks}
+use Rattle.ft25h08_flash.specs.declared.taken.Ft25h08Flash.{Ft25h08Flash}
 use Rattle.ft25h08_flash.proofs.Sending.{none_inside}
-
--- the four answers
-pub out_of_place : (here : Bool) (sector : ℕ) (m : Meaning) → here ≡ false → Err Range ≡ start_answer here sector m
-out_of_place here sector m a = sym (cond-false here _ _ a)
-
-pub not_ready : (here : Bool) (sector : ℕ) (m : Meaning) → here ≡ true → eqb m.left 0 ≡ false → Err Busy ≡ start_answer here sector m
-not_ready here sector m a b = sym (cond-true here _ _ a ∙ cond-false (eqb m.left 0) _ _ b)
-
-pub marked : (here : Bool) (sector : ℕ) (m : Meaning) → here ≡ true → eqb m.left 0 ≡ true → get_or m.marks sector false ≡ true → Err Protected ≡ start_answer here sector m
-marked here sector m a b d = sym (cond-true here _ _ a ∙ cond-true (eqb m.left 0) _ _ b ∙ cond-true (get_or m.marks sector false) _ _ d)
-
-pub free : (here : Bool) (sector : ℕ) (m : Meaning) → here ≡ true → eqb m.left 0 ≡ true → get_or m.marks sector false ≡ false → Ok fresh ≡ start_answer here sector m
-free here sector m a b d = sym (cond-true here _ _ a ∙ cond-true (eqb m.left 0) _ _ b ∙ cond-false (get_or m.marks sector false) _ _ d)
-
--- the marks of a chip
-abbrev marks_in : Chip → List Bool
-marks_in c = marks_of c.settings (length c.array)
 
 -- what a program in its place keeps to
 pub record InPlace (at n end : ℕ) : Type 0 where
@@ -50,12 +31,24 @@ in_place at n end h =
     let rest = and_parts (leb (at % 256 + n) 256) _ some.1 in
     record { some = leb-true 1 n some.0; fits = leb-true (at % 256 + n) 256 rest.0; inside = leb-true (at + n) end rest.1 }
 
--- its sector has a mark
-pub sector_there : (c : Chip) (at n : ℕ) → is_capacity (length c.array) ≡ true → in_page at n (length c.array) ≡ true → at / 4096 < length (marks_in c)
-sector_there c at n whole h =
-    let l = length_marks c.settings (length c.array) in
-    let w = capacity_whole (length c.array) whole in
-    let place = in_place at n (length c.array) h in
+-- a sector that there is begins below the end
+pub sector_inside : (f : Ft25h08Flash) (sector : ℕ) → sector < length (flash_meaning f).marks → sector * 4096 < length (flash_meaning f).bytes
+sector_inside f sector there = let l = length_marks f.chip.settings (length (flash_meaning f).bytes) in omega arith
+
+-- its mark is what the settings say
+pub sector_marked : (f : Ft25h08Flash) (sector : ℕ) → sector < length (flash_meaning f).marks → get_or (flash_meaning f).marks sector false ≡ sector_mark f.chip.settings sector
+sector_marked f sector there =
+    let size = length (flash_meaning f).bytes in
+    let l = length_marks f.chip.settings size in
+    get_or_marks f.chip.settings size sector (omega arith)
+
+-- a program in its place lies in a sector that there is
+pub sector_there : (f : Ft25h08Flash) (at n : ℕ) → in_page at n (length (flash_meaning f).bytes) ≡ true → at / 4096 < length (flash_meaning f).marks
+sector_there f at n h =
+    let bytes = (flash_meaning f).bytes in
+    let l = length_marks f.chip.settings (length bytes) in
+    let w = capacity_whole (length bytes) (taken_whole f) in
+    let place = in_place at n (length bytes) h in
     omega arith
 
 -- a page or a sector in a sector that is not marked is not protected

@@ -1,5 +1,5 @@
 // The frames that a flash sends to its chip.
-ghost use Rattle.std.specs.Prelude.{◌≡◌, ℕ, ◌+◌, ◌/◌, ◌%◌, ◌<◌, ◌≤◌, true, false, [], ◌∷◌, length, take, slice_index};
+ghost use Rattle.std.specs.Prelude.{◌≡◌, ◌/◌, ◌%◌, ◌<◌, ◌≤◌, true, false, [], ◌∷◌, length};
 ghost use Rattle.ft25h08.specs.Accepted.{starts};
 ghost use Rattle.ft25h08.specs.Chip.{with_enable, with_activity, conditions_of};
 ghost use Rattle.ft25h08.specs.Queries.{busy_in};
@@ -8,21 +8,8 @@ ghost use Rattle.ft25h08.specs.declared.activity.Activity.TheVariants.{Idle};
 ghost use Rattle.ft25h08_commands.specs.Rules.{touches_protected};
 ghost use Rattle.ft25h08_flash.specs.ChipFlash.{page_at, sector_at};
 
+use arrayvec::ArrayVec;
 use ft25h08::Ft25h08;
-
-// Each element of a slice is a byte.
-fn are_bytes(bytes: &[u8])
-    ensures { (i : ℕ) → slice_index bytes.now i < 256 }
-{
-    let _ = bytes.is_empty();
-}
-
-// Each cell of a chip holds a byte.
-pub(crate) fn cells_are_bytes(chip: &Ft25h08)
-    ensures { (i : ℕ) → slice_index (chip_of chip.now).array i < 256 }
-{
-    are_bytes(chip.array());
-}
 
 // Wakes a chip that is not in the middle of a change.
 pub(crate) fn wake(chip: &mut Ft25h08)
@@ -45,24 +32,19 @@ fn header(code: u8, at: usize) -> [u8; 4]
     requires { at < 16777216 }
     ensures { result ≡ code ∷ at / 65536 ∷ at / 256 % 256 ∷ at % 256 ∷ [] }
 {
-    [
-        code,
-        (at / 65_536) as u8,
-        (at / 256 % 256) as u8,
-        (at % 256) as u8,
-    ]
+    let [_, high, middle, low] = (at as u32).to_be_bytes();
+    [code, high, middle, low]
 }
 
-// The frame of a page program, at the front of a buffer.
-fn program_frame(at: usize, new: &[u8]) -> [u8; 260]
+// The frame of a page program.
+fn program_frame(at: usize, new: &[u8]) -> ArrayVec<u8, 260>
     requires few { length new.now ≤ 256 }
     requires low { at < 16777216 }
-    ensures { take (4 + length new.now) result ≡ 2 ∷ at / 65536 ∷ at / 256 % 256 ∷ at % 256 ∷ new.now }
+    ensures { result.items ≡ 2 ∷ at / 65536 ∷ at / 256 % 256 ∷ at % 256 ∷ new.now }
 {
-    let mut frame = [0; 260];
-    let n = new.len();
-    frame[0..4].copy_from_slice(&header(0x02, at));
-    frame[4..4 + n].copy_from_slice(new);
+    let mut frame = ArrayVec::new();
+    frame.try_extend_from_slice(&header(0x02, at)).unwrap();
+    frame.try_extend_from_slice(new).unwrap();
     frame
 }
 
@@ -76,10 +58,7 @@ pub(crate) fn start_program(chip: &mut Ft25h08, at: usize, new: &[u8])
     requires free { touches_protected (conditions_of (chip_of chip.old)) (length (chip_of chip.old).array) 2 at ≡ false }
     ensures { chip_of chip.new ≡ starts (page_at at new.now (chip_of chip.old)) (chip_of chip.old).ticks.program (chip_of chip.old) }
 {
-    let frame = program_frame(at, new);
-    let mut answer = [0; 260];
-    let n = 4 + new.len();
-    let _ = chip.frame(&frame[0..n], 0, &mut answer[0..n]);
+    let _ = chip.frame(&program_frame(at, new), 0, &mut [0; 260]);
 }
 
 // Starts a sector erase.

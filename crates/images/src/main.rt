@@ -12,10 +12,12 @@ use script::SCRIPT;
 use subjects::{new_image, taken_chip};
 
 fn run<F: NorFlash>(rt: &HostRuntime, name: &str, flash: &mut F) -> anyhow::Result<()> {
-    for i in 0..SCRIPT.len() {
-        let outcome = play(flash, SCRIPT[i]);
+    for (i, step) in SCRIPT.iter().enumerate() {
         let line = i + 1;
-        println!(rt; "{name} {line} {outcome}")?;
+        match play(flash, *step) {
+            Ok(outcome) => println!(rt; "{name} {line} {outcome}")?,
+            Err(why) => println!(rt; "{name} {line} refused {}", u8::from(why))?,
+        }
     }
     Ok(())
 }

@@ -1,8 +1,7 @@
 // What a step comes to, and how it is printed.
-use flash::FlashRefusal;
 use std::fmt;
 
-/// What a step comes to.
+/// What a step comes to that is not refused.
 #[derive(Clone, Copy)]
 pub enum Outcome {
     /// a change landed after so many ticks
@@ -11,7 +10,6 @@ pub enum Outcome {
     Holds { byte: u8 },
     /// whether a sector is protected
     Marked { protected: bool },
-    Refused { why: FlashRefusal },
 }
 
 impl fmt::Display for Outcome {
@@ -20,10 +18,6 @@ impl fmt::Display for Outcome {
             Outcome::Took { ticks } => write!(f, "took {ticks}"),
             Outcome::Holds { byte } => write!(f, "byte {byte:02x}"),
             Outcome::Marked { protected } => write!(f, "protected {protected}"),
-            Outcome::Refused { why } => {
-                let number = why.number();
-                write!(f, "refused {number}")
-            }
         }
     }
 }

@@ -36,10 +36,8 @@ pub(crate) fn new_image(heap: Global) -> anyhow::Result<Image>
 {
     let bytes = blank_bytes(heap)?;
     let marks = lower_marks(heap)?;
-    match Image::refusal(&bytes, &marks) {
-        Ok(()) => Ok(Image::new(bytes, marks)),
-        Err(_) => Err(anyhow!("no image can be made of these bytes")),
-    }
+    Image::refusal(&bytes, &marks).map_err(|_| anyhow!("no image can be made of these bytes"))?;
+    Ok(Image::new(bytes, marks))
 }
 
 fn newborn_chip(heap: Global) -> anyhow::Result<Ft25h08>
@@ -47,10 +45,10 @@ fn newborn_chip(heap: Global) -> anyhow::Result<Ft25h08>
 {
     let array = blank_bytes(heap)?;
     let ticks = Ticks::bench();
-    match Ft25h08::birth_refusal(array.len(), ticks) {
-        Ok(()) => Ok(Ft25h08::new(array, ticks)),
-        Err(_) => Err(anyhow!("no chip can be born over this array")),
-    }
+    Ft25h08::birth_refusal(array.len(), ticks).map_err(|_| anyhow!(
+        "no chip can be born over this array"
+    ))?;
+    Ok(Ft25h08::new(array, ticks))
 }
 
 // Writes the status register of a newborn chip, and waits.
@@ -79,8 +77,6 @@ pub(crate) fn taken_chip(heap: Global) -> anyhow::Result<Ft25h08Flash>
 {
     let mut chip = newborn_chip(heap)?;
     protect_lower_block(&mut chip);
-    match Ft25h08Flash::refusal(&chip) {
-        Ok(()) => Ok(Ft25h08Flash::take(chip)),
-        Err(_) => Err(anyhow!("the chip is in the middle of a change")),
-    }
+    Ft25h08Flash::refusal(&chip).map_err(|_| anyhow!("the chip is in the middle of a change"))?;
+    Ok(Ft25h08Flash::take(chip))
 }

@@ -2,6 +2,7 @@
 ghost use Rattle.std.specs.Prelude.{◌≡◌, true, length, Ok};
 ghost use Rattle.flash.specs.Answers.{file_answer};
 
+use crate::checks::read_from;
 use crate::file::FileImage;
 use crate::refusal::FlashRefusal;
 use crate::traits::ReadNorFlash;
@@ -43,11 +44,6 @@ impl<'a> ReadNorFlash for FileImage<'a> {
     }
 
     fn read(&self, at: usize, out: &mut [u8]) -> Result<(), FlashRefusal> {
-        let n = out.len();
-        if at > self.bytes.len() || n > self.bytes.len() - at {
-            return Err(FlashRefusal::Range);
-        }
-        out.copy_from_slice(&self.bytes[at..at + n]);
-        Ok(())
+        read_from(self.bytes, true, at, out)
     }
 }

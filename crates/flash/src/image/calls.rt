@@ -1,41 +1,26 @@
 // What an image does.
-ghost use Rattle.std.specs.Prelude.{◌≡◌, ℕ, ◌≤◌, List, length, take, Ok, vec_len, ◌==◌};
+ghost use Rattle.std.specs.Prelude.{◌≡◌, length, None, Some, Ok, vec_len, ◌==◌};
 ghost use Rattle.flash.specs.Answers.{image_answer};
 ghost use Rattle.flash.specs.Images.{image_meaning, image_most};
 ghost use Rattle.flash.specs.Pendings.{landed, meaning_of};
-ghost use Rattle.flash.specs.declared.image.Pending.TheVariants.{Nothing};
 ghost use Rattle.std.proofs.Common.{rules};
 ghost use Rattle.flash.specs.Landing.{length-landed, landed_rest};
 
+use crate::checks::{read_from, start_refusal};
 use crate::image::{Image, Pending};
 use crate::in_progress::InProgress;
 use crate::page::fits_page;
 use crate::refusal::FlashRefusal;
+use crate::tallies::Tallies;
 use crate::traits::{NorFlash, ReadNorFlash};
-
-// The bytes of a program at the front of a page's worth.
-fn page_of(new: &[u8]) -> [u8; 256]
-    requires { length new.now ≤ 256 }
-    ensures { take (length new.now) result ≡ new.now }
-{
-    let mut page = [0xff; 256];
-    let n = new.len();
-    let part = &mut page[0..n];
-    part.copy_from_slice(new);
-    page
-}
+use arrayvec::ArrayVec;
 
 // Makes the change that was under way.
 fn land(pending: Pending, bytes: &mut [u8])
-    ensures { bytes.new ≡ landed pending bytes.old }
+    ensures { bytes.new ≡ landed (Some pending) bytes.old }
 {
     match pending {
-        Pending::Nothing => {}
-        Pending::Program { at, count, new } => cells::program_bytes(
-            bytes,
-            at,
-            &new[0..count.min(256)],
-        ),
+        Pending::Program { at, new } => cells::program_bytes(bytes, at, &new),
         Pending::Erase { first } => cells::erase(bytes, first, 4096),
     }
 }
@@ -55,14 +40,13 @@ impl Image {
     /// An image of these bytes and marks. Ask `refusal` first.
     pub fn new(bytes: Vec<u8>, marks: Vec<bool>) -> Image
         requires { image_answer (vec_len bytes) (vec_len marks) ≡ Ok tt }
-        ensures { image_meaning result ≡ meaning_of Nothing bytes.items marks.items 0 0 }
+        ensures { image_meaning result ≡ meaning_of None bytes.items marks.items 0 0 }
     {
         Image {
             bytes,
             marks,
-            pending: Pending::Nothing,
-            programs: 0,
-            erases: 0,
+            pending: None,
+            tallies: Tallies::new(),
         }
     }
 
@@ -70,13 +54,7 @@ impl Image {
     pub fn release(self) -> Vec<u8>
         ensures { result.items ≡ (image_meaning self).bytes }
     {
-        let Image {
-            bytes,
-            marks: _,
-            pending: _,
-            programs: _,
-            erases: _,
-        } = self;
+        let Image { bytes, .. } = self;
         bytes
     }
 }
@@ -93,20 +71,11 @@ impl ReadNorFlash for Image {
     }
 
     fn is_ready(&self) -> bool {
-        matches!(self.pending, Pending::Nothing)
+        self.pending.is_none()
     }
 
     fn read(&self, at: usize, out: &mut [u8]) -> Result<(), FlashRefusal> {
-        let n = out.len();
-        let all = self.bytes.as_slice();
-        if at > all.len() || n > all.len() - at {
-            return Err(FlashRefusal::Range);
-        }
-        if !self.is_ready() {
-            return Err(FlashRefusal::Busy);
-        }
-        out.copy_from_slice(&all[at..at + n]);
-        Ok(())
+        read_from(&self.bytes, self.is_ready(), at, out)
     }
 }
 
@@ -124,53 +93,35 @@ impl NorFlash for Image {
     ghost rests = { Prim.search rules };
 
     fn program(&mut self, at: usize, new: &[u8]) -> Result<InProgress, FlashRefusal> {
-        let n = new.len();
-        if !fits_page(at, n, self.bytes.len()) {
+        if !fits_page(at, new.len(), self.bytes.len()) {
             return Err(FlashRefusal::Range);
         }
-        if !self.is_ready() {
-            return Err(FlashRefusal::Busy);
-        }
-        if self.marks[at / 4096] {
-            return Err(FlashRefusal::Protected);
-        }
-        let page = page_of(new);
-        self.pending = Pending::Program {
+        start_refusal(self.is_ready(), self.is_protected(at / 4096)?)?;
+        self.pending = Some(Pending::Program {
             at,
-            count: n,
-            new: page,
-        };
-        self.programs = self.programs.wrapping_add(1);
+            new: ArrayVec::try_from(new).unwrap(),
+        });
+        self.tallies.count_program();
         Ok(InProgress::started())
     }
 
     fn erase_sector(&mut self, sector: usize) -> Result<InProgress, FlashRefusal> {
-        if sector >= self.marks.len() {
-            return Err(FlashRefusal::Range);
-        }
-        if !self.is_ready() {
-            return Err(FlashRefusal::Busy);
-        }
-        if self.marks[sector] {
-            return Err(FlashRefusal::Protected);
-        }
-        self.pending = Pending::Erase {
+        start_refusal(self.is_ready(), self.is_protected(sector)?)?;
+        self.pending = Some(Pending::Erase {
             first: sector * 4096,
-        };
-        self.erases = self.erases.wrapping_add(1);
+        });
+        self.tallies.count_erase();
         Ok(InProgress::started())
     }
 
     fn tick(&mut self) {
-        land(self.pending, self.bytes.as_mut_slice());
-        self.pending = Pending::Nothing;
+        if let Some(pending) = self.pending.take() {
+            land(pending, &mut self.bytes);
+        }
     }
 
     fn is_protected(&self, sector: usize) -> Result<bool, FlashRefusal> {
-        if sector >= self.marks.len() {
-            return Err(FlashRefusal::Range);
-        }
-        Ok(self.marks[sector])
+        self.marks.get(sector).copied().ok_or(FlashRefusal::Range)
     }
 
     fn program_ticks(&self) -> u16 {

@@ -1,6 +1,6 @@
 // What a taken chip does.
-ghost use Rattle.std.specs.Prelude.{◌≡◌, ℕ, ◌/◌, ◌<◌, ◌≤◌, true, false, length, Ok, ◌==◌, slice_index_or};
-ghost use Rattle.std.proofs.Common.{subst, rules};
+ghost use Rattle.std.specs.Prelude.{◌≡◌, ◌/◌, ◌<◌, ◌≤◌, true, false, length, Ok, ◌==◌, slice_index_or};
+ghost use Rattle.std.proofs.Common.{rules};
 ghost use Rattle.flash.specs.Answers.{in_page, fresh};
 ghost use Rattle.flash.specs.Meaning.{program_started, erase_started};
 ghost use Rattle.ft25h08.specs.Chip.{with_activity};
@@ -8,14 +8,15 @@ ghost use Rattle.ft25h08.specs.State.{chip_of};
 ghost use Rattle.ft25h08.specs.Tick.{tick_after};
 ghost use Rattle.ft25h08.specs.declared.activity.Activity.TheVariants.{Idle};
 ghost use Rattle.ft25h08_flash.specs.ChipFlash.{chip_meaning, sector_mark, take_answer};
-ghost use Rattle.ft25h08_flash.specs.Taken.{flash_meaning, taken_most};
-ghost use Rattle.ft25h08_commands.specs.Sizes.{is_capacity};
+ghost use Rattle.ft25h08_flash.specs.Taken.{flash_meaning, taken_most, taken_whole};
 ghost use Rattle.ft25h08.proofs.Counting.{each_count};
 ghost use Rattle.ft25h08_flash.specs.Taking;
 
-use crate::frames::{cells_are_bytes, enable, start_erase, start_program, wake};
+use crate::frames::{enable, start_erase, start_program, wake};
 use crate::taken::Ft25h08Flash;
-use flash::{FlashRefusal, InProgress, NorFlash, ReadNorFlash, fits_page};
+use flash::{
+    FlashRefusal, InProgress, NorFlash, ReadNorFlash, Tallies, fits_page, read_from, start_refusal,
+};
 use ft25h08::Ft25h08;
 use ft25h08_commands::any_protected;
 
@@ -39,8 +40,7 @@ impl Ft25h08Flash {
         wake(&mut chip);
         Ft25h08Flash {
             chip,
-            programs: 0,
-            erases: 0,
+            tallies: Tallies::new(),
         }
     }
 
@@ -48,11 +48,7 @@ impl Ft25h08Flash {
     pub fn release(self) -> Ft25h08
         ensures { chip_of result ≡ chip_of self.chip }
     {
-        let Ft25h08Flash {
-            chip,
-            programs: _,
-            erases: _,
-        } = self;
+        let Ft25h08Flash { chip, .. } = self;
         chip
     }
 
@@ -87,10 +83,12 @@ impl Ft25h08Flash {
         ensures mark { result ≡ fresh }
         ensures after { flash_meaning self.new ≡ program_started at new.now (flash_meaning self.old) }
     {
-        cells_are_bytes(&self.chip);
+        // Each cell holds a byte, which a list of numbers does not tell.
+        let cells = self.chip.array();
+        let _ = cells.len();
         enable(&mut self.chip);
         start_program(&mut self.chip, at, new);
-        self.programs = self.programs.wrapping_add(1);
+        self.tallies.count_program();
         InProgress::started()
     }
 
@@ -104,13 +102,13 @@ impl Ft25h08Flash {
     {
         enable(&mut self.chip);
         start_erase(&mut self.chip, sector * 4096);
-        self.erases = self.erases.wrapping_add(1);
+        self.tallies.count_erase();
         InProgress::started()
     }
 
     // The chip ticks once, and the tallies stay.
     fn tick_chip(&mut self)
-        ensures { flash_meaning self.new ≡ chip_meaning (tick_after (chip_of self.old.chip)) self.old.programs self.old.erases }
+        ensures { flash_meaning self.new ≡ chip_meaning (tick_after (chip_of self.old.chip)) self.old.tallies.programs self.old.tallies.erases }
     {
         self.chip.tick();
     }
@@ -132,16 +130,7 @@ impl ReadNorFlash for Ft25h08Flash {
     }
 
     fn read(&self, at: usize, out: &mut [u8]) -> Result<(), FlashRefusal> {
-        let n = out.len();
-        let all = self.chip.array();
-        if at > all.len() || n > all.len() - at {
-            return Err(FlashRefusal::Range);
-        }
-        if !self.is_ready() {
-            return Err(FlashRefusal::Busy);
-        }
-        out.copy_from_slice(&all[at..at + n]);
-        Ok(())
+        read_from(self.chip.array(), self.is_ready(), at, out)
     }
 }
 
@@ -150,7 +139,7 @@ impl NorFlash for Ft25h08Flash {
 
     ghost sound = { λ f.
         let counts = each_count f.chip.ticks f.chip.counts in
-        Taking.sound (chip_of f.chip) f.programs f.erases (subst (λ (n : ℕ). is_capacity n ≡ true) f.chip.array.ok.0 f.chip.whole) counts.program counts.sector f.short_program f.short_erase f.taken f.few_programs f.few_erases };
+        Taking.sound (chip_of f.chip) f.tallies.programs f.tallies.erases (taken_whole f) counts.program counts.sector f.short_program f.short_erase f.taken f.tallies.few_programs f.tallies.few_erases };
 
     ghost same = { Prim.search rules };
 
@@ -160,25 +149,12 @@ impl NorFlash for Ft25h08Flash {
         if !fits_page(at, new.len(), self.chip.capacity()) {
             return Err(FlashRefusal::Range);
         }
-        if !self.is_ready() {
-            return Err(FlashRefusal::Busy);
-        }
-        if self.mark_of(at / 4096) {
-            return Err(FlashRefusal::Protected);
-        }
+        start_refusal(self.is_ready(), self.mark_of(at / 4096))?;
         Ok(self.send_program(at, new))
     }
 
     fn erase_sector(&mut self, sector: usize) -> Result<InProgress, FlashRefusal> {
-        if sector >= self.sectors() {
-            return Err(FlashRefusal::Range);
-        }
-        if !self.is_ready() {
-            return Err(FlashRefusal::Busy);
-        }
-        if self.mark_of(sector) {
-            return Err(FlashRefusal::Protected);
-        }
+        start_refusal(self.is_ready(), self.is_protected(sector)?)?;
         Ok(self.send_erase(sector))
     }
 

@@ -7,7 +7,7 @@ use Rattle.images.specs.Subjects.{blank, lower_block, with_settings}
 use Rattle.images.proofs.Marking.{chip_at_first}
 use Rattle.images.proofs.subjects.taken_chip.Goals as goal
 
-pub returns-in-Ok : goal.returns-in-Ok
-returns-in-Ok c =
+pub returns : goal.returns
+returns c =
     let born : flash_meaning c.take.result ≡ chip_meaning (with_settings lower_block (newborn (blank 131072) bench_ticks)) 0 0 = search rules in
     born ∙ chip_at_first

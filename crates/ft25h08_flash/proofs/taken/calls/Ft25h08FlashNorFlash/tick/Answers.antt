@@ -6,4 +6,4 @@ use Rattle.ft25h08_flash.proofs.taken.calls.Ft25h08FlashNorFlash.tick.Goals as g
 pub returns : goal.returns
 returns c =
     let f = c.args.self.now in
-    c.tick_chip.ensures ∙ ticks_on (chip_of f.chip) f.programs f.erases f.taken
+    c.tick_chip.ensures ∙ ticks_on (chip_of f.chip) f.tallies.programs f.tallies.erases f.taken
