@@ -1,5 +1,6 @@
 -- A part of one page is programmed.
-use Rattle.std.proofs.Common.{◌≡◌, ℕ, ◌+◌, ◌-◌, ◌*◌, ◌/◌, ◌%◌, ◌<◌, ◌≤◌, false, not, eqb, List, length, get_or, take, drop, sym, refl, ap, ◌∙◌, subst, inr, add-mul, arith}
+use Rattle.std.specs.Borrow.{Bor}
+use Rattle.std.proofs.Common.{Some, None, Option, ◌≡◌, ℕ, ◌+◌, ◌-◌, ◌*◌, ◌/◌, ◌%◌, ◌<◌, ◌≤◌, false, not, eqb, List, length, get_or, take, drop, sym, refl, ap, ◌∙◌, subst, inr, add-mul, arith}
 use lib.Bits.{bit_and}
 use Rattle.std.proofs.lemmas.Bool.{eqb-true, not-false}
 use Rattle.cells.specs.Bytes.{changed}
@@ -12,8 +13,6 @@ use Rattle.flash.specs.Meaning.{Meaning, Sound}
 use Rattle.writer.specs.Needed.{placed, differs_at, programs_for, erases_for}
 use Rattle.writer.specs.Put.{holding, Made}
 use Rattle.writer.specs.Before.{KnownTo}
-use Rattle.writer.specs.declared.before.Before.{Before}
-use Rattle.writer.specs.declared.before.Before.TheVariants.{Blank, Bytes}
 use Rattle.writer.proofs.Placing.{begun, length-begun, begun_all, begun_in, begun_out, begun_none, length_part, begun_more, begun_halfway, holding-more, holding-still}
 use Rattle.writer.proofs.Needing.{Falls, falls_erases, falls_first, falls_then, pages_join, programs_none}
 
@@ -71,9 +70,9 @@ made_ticks new before after p e t made =
     ∙ ap (λ (n : ℕ). p * before.program_ticks + n * before.erase_ticks) (sym (made_erases new before after p e t made))
 
 -- what is known of a stretch is known of its front
-pub known_less : (n m : ℕ) (before : Before) → n ≤ m → KnownTo m before → KnownTo n before
-known_less n m Blank h known = tt
-known_less n m (Bytes old) h known = omega arith
+pub known_less : (n m : ℕ) (before : Option (Bor (List ℕ))) → n ≤ m → KnownTo m before → KnownTo n before
+known_less n m None h known = tt
+known_less n m (Some old) h known = omega arith
 
 -- a part of a put that needs no erase needs none
 falls_over : (at : ℕ) (bytes : List ℕ) (n : ℕ) (old : List ℕ) → n ≤ length bytes → at + length bytes ≤ length old → Falls old (placed at bytes old) → Falls old (begun at bytes n old)

@@ -1,7 +1,6 @@
 //! Puts bytes into any flash, with the fewest erases.
 #![tactic(auto)]
 
-mod before;
 mod compare;
 mod locked;
 mod pages;

@@ -5,20 +5,20 @@ ghost use Rattle.writer.specs.Before.{byte_before, KnownTo};
 ghost use Rattle.writer.specs.Needed.{placed, differs_at, rises_at};
 ghost use Rattle.writer.specs.Put.{Made};
 
-use crate::before::Before;
 use crate::compare::{any_differs, any_written};
 use crate::steps::{program, stretch};
 use flash::NorFlash;
 
-// Whether the part of a stretch that begins at `pos` has to change.
-fn part_differs(before: Before<'_>, pos: usize, part: &[u8]) -> bool
+// Whether the part of a stretch that begins at `pos` has to change. Before it the stretch holds these bytes, or none are
+// given if it has just been erased and is FF throughout.
+fn part_differs(before: Option<&[u8]>, pos: usize, part: &[u8]) -> bool
     requires { KnownTo (pos + length part.now) before }
     ensures { result ≡ any_in (λ k. not (byte_before before.entry (pos + k) == slice_index part.now k)) 0 (length part.now) }
 {
     let n = part.len();
     match before {
-        Before::Blank => any_written(part),
-        Before::Bytes(old) => any_differs(&old[pos..pos + n], part),
+        None => any_written(part),
+        Some(old) => any_differs(&old[pos..pos + n], part),
     }
 }
 
@@ -45,7 +45,7 @@ pub(crate) fn program_pages<F: NorFlash>(
     flash: &mut F,
     at: usize,
     bytes: &[u8],
-    before: Before<'_>,
+    before: Option<&[u8]>,
 ) -> (u32, u32)
     requires ready { (F.NorFlash.meaning flash.old).left ≡ 0 }
     requires sector { at % 4096 + length bytes.now ≤ 4096 }

@@ -3,7 +3,6 @@ ghost use Rattle.std.specs.Prelude.{◌≡◌, ℕ, ◌+◌, ◌-◌, ◌*◌, �
 ghost use Rattle.writer.specs.Needed.{placed, must_erase};
 ghost use Rattle.writer.specs.Put.{Made, is_locked};
 
-use crate::before::{Before, blank};
 use crate::compare::any_rises;
 use crate::pages::program_pages;
 use crate::steps::{erase, is_marked, read_into, sector_of};
@@ -40,7 +39,7 @@ fn rewrite<F: NorFlash>(flash: &mut F, at: usize, bytes: &[u8], work: &mut [u8])
     let sector = sector_of(at);
     compose(flash, at, bytes, work);
     let (erases, spent) = erase(flash, sector);
-    let (programs, ticks) = program_pages(flash, sector * 4096, work, blank());
+    let (programs, ticks) = program_pages(flash, sector * 4096, work, None);
     (programs, erases, spent + ticks)
 }
 
@@ -68,7 +67,7 @@ pub(crate) fn put_in_sector<F: NorFlash>(
     let old = &mut work[start..start + bytes.len()];
     read_into(flash, at, old);
     if !any_rises(old, bytes) {
-        let (programs, ticks) = program_pages(flash, at, bytes, Before::Bytes(old));
+        let (programs, ticks) = program_pages(flash, at, bytes, Some(old));
         return (programs, 0, ticks);
     }
     rewrite(flash, at, bytes, work)

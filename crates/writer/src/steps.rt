@@ -36,10 +36,7 @@ pub(crate) fn is_marked<F: NorFlash>(flash: &F, sector: usize) -> bool
     requires { sector < length (F.NorFlash.meaning flash.now).marks }
     ensures { result ≡ slice_index_or (F.NorFlash.meaning flash.now).marks sector false }
 {
-    match flash.is_protected(sector) {
-        Ok(mark) => mark,
-        Err(_) => unreachable(),
-    }
+    flash.is_protected(sector).unwrap()
 }
 
 // Programs bytes into one page, and waits. Answers the programs and the ticks.
@@ -48,10 +45,7 @@ pub(crate) fn program<F: NorFlash>(flash: &mut F, at: usize, bytes: &[u8]) -> (u
     ensures cost { result ≡ (1, (F.NorFlash.meaning flash.old).program_ticks) }
     ensures after { F.NorFlash.meaning flash.new ≡ holding (changed at (length bytes.now) (anded at bytes.now) (F.NorFlash.meaning flash.old).bytes) 1 0 (F.NorFlash.meaning flash.old) }
 {
-    match program_and_wait(flash, at, bytes) {
-        Ok(ticks) => (1, ticks),
-        Err(_) => unreachable(),
-    }
+    (1, program_and_wait(flash, at, bytes).unwrap())
 }
 
 // Erases a sector, and waits. Answers the erases and the ticks.
@@ -60,8 +54,5 @@ pub(crate) fn erase<F: NorFlash>(flash: &mut F, sector: usize) -> (u32, u32)
     ensures cost { result ≡ (1, (F.NorFlash.meaning flash.old).erase_ticks) }
     ensures after { F.NorFlash.meaning flash.new ≡ holding (changed (sector * 4096) 4096 erased (F.NorFlash.meaning flash.old).bytes) 0 1 (F.NorFlash.meaning flash.old) }
 {
-    match erase_and_wait(flash, sector) {
-        Ok(spent) => (1, spent),
-        Err(_) => unreachable(),
-    }
+    (1, erase_and_wait(flash, sector).unwrap())
 }

@@ -3,10 +3,8 @@ use Rattle.std.proofs.lemmas.Nat.{mul-le}
 use Rattle.cells.specs.Changes.{erased}
 use Rattle.cells.proofs.Ranges.{length-changed}
 use Rattle.flash.specs.Meaning.{Meaning}
-use Rattle.writer.specs.Before.{byte_before, KnownTo}
 use Rattle.writer.specs.Needed.{placed, must_erase}
 use Rattle.writer.specs.Put.{Made}
-use Rattle.writer.specs.declared.before.Before.{Before}
 use Rattle.writer.proofs.Placing.{length-begun}
 use Rattle.writer.proofs.Needing.{Falls, programs_most}
 use Rattle.writer.proofs.Paging.{made_programs, made_ticks}
@@ -42,10 +40,9 @@ program_pages-programs-requires g c =
       within = omega arith;
       free = ap (λ (x : Meaning). get_or x.marks (sector * 4096 / 4096) false) is ∙ ap (λ (s : ℕ). get_or m.marks s false) (place ∙ same) ∙ c.requires.free;
       falls = subst (λ (xs : List ℕ). Falls xs (placed (sector * 4096) work xs)) (sym held) (subst (λ (xs : List ℕ). Falls (blanked sector m.bytes) xs) (sym becomes) (blanked_falls sector m.bytes new there far));
-      known = subst (λ (b : Before). KnownTo (length work) b) (sym c.blank.ensures) tt;
+      known = tt;
       before = λ k h.
-          ap (λ (b : Before). byte_before b k) c.blank.ensures
-          ∙ sym (ap (λ (xs : List ℕ). get_or xs (sector * 4096 + k) 0) held ∙ blanked_in sector m.bytes (sector * 4096 + k) (omega arith) (omega arith) (omega arith));
+          sym (ap (λ (xs : List ℕ). get_or xs (sector * 4096 + k) 0) held ∙ blanked_in sector m.bytes (sector * 4096 + k) (omega arith) (omega arith) (omega arith));
     }
 
 pub overflow_add-result : goal.overflow_add-result
