@@ -4,3 +4,4 @@ pub mod Paging
 pub mod Sectors
 pub mod Walking
 pub mod Fewest
+pub mod Comparing
