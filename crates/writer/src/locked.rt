@@ -9,8 +9,7 @@ use crate::steps::{is_marked, read_into, sector_of, stretch};
 use flash::NorFlash;
 
 // Whether bytes that lie in one sector would change it though it is protected. A sector that is not protected is not read.
-fn is_locked<F: NorFlash>(flash: &F, at: usize, bytes: &[u8], work: &mut [u8]) -> bool
-    requires long { length work.old ≡ 4096 }
+fn is_locked<F: NorFlash>(flash: &F, at: usize, bytes: &[u8], work: &mut [u8; 4096]) -> bool
     requires ready { (F.NorFlash.meaning flash.now).left ≡ 0 }
     requires some { 1 ≤ length bytes.now }
     requires sector { at % 4096 + length bytes.now ≤ 4096 }
@@ -30,9 +29,8 @@ pub(crate) fn first_locked<F: NorFlash>(
     flash: &F,
     at: usize,
     bytes: &[u8],
-    work: &mut [u8],
+    work: &mut [u8; 4096],
 ) -> Option<usize>
-    requires long { length work.old ≡ 4096 }
     requires ready { (F.NorFlash.meaning flash.now).left ≡ 0 }
     requires within { at + length bytes.now ≤ length (F.NorFlash.meaning flash.now).bytes }
     ensures { result ≡ first_in (is_locked (F.NorFlash.meaning flash.now) (placed at bytes.now (F.NorFlash.meaning flash.now).bytes)) 0 (length (F.NorFlash.meaning flash.now).marks) }

@@ -1,5 +1,5 @@
 // Puts bytes that lie in one sector.
-ghost use Rattle.std.specs.Prelude.{◌≡◌, ℕ, ◌+◌, ◌-◌, ◌*◌, ◌/◌, ◌%◌, ◌<◌, ◌≤◌, true, false, length, slice_index, slice_index_or};
+ghost use Rattle.std.specs.Prelude.{◌≡◌, ℕ, ◌+◌, ◌-◌, ◌*◌, ◌/◌, ◌%◌, ◌<◌, ◌≤◌, true, false, ◌++◌, length, take, drop, slice_index, slice_index_or};
 ghost use Rattle.writer.specs.Needed.{placed, must_erase};
 ghost use Rattle.writer.specs.Put.{Made, is_locked};
 
@@ -9,25 +9,28 @@ use crate::steps::{erase, is_marked, read_into, sector_of};
 use flash::NorFlash;
 
 // Makes the work buffer what the sector is to hold: the bytes at their place, and around them what stands.
-fn compose<F: NorFlash>(flash: &F, at: usize, bytes: &[u8], work: &mut [u8])
-    requires long { length work.old ≡ 4096 }
+fn compose<F: NorFlash>(flash: &F, at: usize, bytes: &[u8], work: &mut [u8; 4096])
     requires ready { (F.NorFlash.meaning flash.now).left ≡ 0 }
     requires some { 1 ≤ length bytes.now }
     requires sector { at % 4096 + length bytes.now ≤ 4096 }
     requires within { at + length bytes.now ≤ length (F.NorFlash.meaning flash.now).bytes }
-    ensures { (k : ℕ) → k < 4096 → slice_index work.new k ≡ slice_index (placed at bytes.now (F.NorFlash.meaning flash.now).bytes) (at / 4096 * 4096 + k) }
+    ensures { let held = (F.NorFlash.meaning flash.now).bytes in work.new ≡ take (at % 4096) (drop (at - at % 4096) held) ++ (bytes.now ++ take (4096 - (at % 4096 + length bytes.now)) (drop (at + length bytes.now) held)) }
 {
     let start = at % 4096;
-    let end = start + bytes.len();
-    let base = at - start;
-    read_into(flash, base, &mut work[..start]);
-    read_into(flash, base + end, &mut work[end..]);
-    work[start..end].copy_from_slice(bytes);
+    let (front, rest) = work.split_at_mut(start);
+    let (middle, behind) = rest.split_at_mut(bytes.len());
+    read_into(flash, at - start, front);
+    middle.copy_from_slice(bytes);
+    read_into(flash, at + bytes.len(), behind);
 }
 
 // Erases the sector and programs what it is to hold. Answers the programs, the erases and the ticks.
-fn rewrite<F: NorFlash>(flash: &mut F, at: usize, bytes: &[u8], work: &mut [u8]) -> (u32, u32, u32)
-    requires long { length work.old ≡ 4096 }
+fn rewrite<F: NorFlash>(
+    flash: &mut F,
+    at: usize,
+    bytes: &[u8],
+    work: &mut [u8; 4096],
+) -> (u32, u32, u32)
     requires ready { (F.NorFlash.meaning flash.old).left ≡ 0 }
     requires some { 1 ≤ length bytes.now }
     requires sector { at % 4096 + length bytes.now ≤ 4096 }
@@ -50,9 +53,8 @@ pub(crate) fn put_in_sector<F: NorFlash>(
     flash: &mut F,
     at: usize,
     bytes: &[u8],
-    work: &mut [u8],
+    work: &mut [u8; 4096],
 ) -> (u32, u32, u32)
-    requires long { length work.old ≡ 4096 }
     requires ready { (F.NorFlash.meaning flash.old).left ≡ 0 }
     requires some { 1 ≤ length bytes.now }
     requires sector { at % 4096 + length bytes.now ≤ 4096 }

@@ -17,9 +17,8 @@ fn write_sectors<F: NorFlash>(
     flash: &mut F,
     at: usize,
     bytes: &[u8],
-    work: &mut [u8],
+    work: &mut [u8; 4096],
 ) -> (u32, u32, u32)
-    requires long { length work.old ≡ 4096 }
     requires ready { (F.NorFlash.meaning flash.old).left ≡ 0 }
     requires within { at + length bytes.now ≤ length (F.NorFlash.meaning flash.old).bytes }
     requires free { (sector : ℕ) → sector < length (F.NorFlash.meaning flash.old).marks → is_locked (F.NorFlash.meaning flash.old) (placed at bytes.now (F.NorFlash.meaning flash.old).bytes) sector ≡ false }
@@ -47,6 +46,29 @@ fn is_inside(at: usize, len: usize, capacity: usize) -> bool
     at <= capacity && len <= capacity - at
 }
 
+// Puts bytes at an address by way of the work buffer, unless that is refused.
+fn put_through<F: NorFlash>(
+    flash: &mut F,
+    at: usize,
+    bytes: &[u8],
+    work: &mut [u8; 4096],
+) -> Result<(u32, u32, u32), PutRefusal>
+    ensures answer { result ≡ put_answer at bytes.now 4096 (F.NorFlash.meaning flash.old) }
+    ensures after { F.NorFlash.meaning flash.new ≡ after_put result at bytes.now (F.NorFlash.meaning flash.old) }
+    ensures fewest { FewestErases result (F.NorFlash.meaning flash.old).bytes (F.NorFlash.meaning flash.new).bytes }
+{
+    if !is_inside(at, bytes.len(), flash.capacity()) {
+        return Err(PutRefusal::Range);
+    }
+    if !flash.is_ready() {
+        return Err(PutRefusal::Busy);
+    }
+    if let Some(sector) = first_locked(flash, at, bytes, work) {
+        return Err(PutRefusal::Protected { sector });
+    }
+    Ok(write_sectors(flash, at, bytes, work))
+}
+
 /// Puts bytes at an address: afterwards they stand there, and every other byte is as it was. A sector in which some bit
 /// has to go from 0 to 1 is erased and programmed anew, any other is only programmed where a byte has to change, and one
 /// in which nothing has to change is left alone. The work buffer, 4,096 bytes, is filled with FF in any case. Answers
@@ -63,14 +85,6 @@ pub fn put<F: NorFlash>(
     ensures fewest { FewestErases result (F.NorFlash.meaning flash.old).bytes (F.NorFlash.meaning flash.new).bytes }
 {
     let guard = WorkBuffer { bytes: work };
-    if !is_inside(at, bytes.len(), flash.capacity()) || guard.bytes.len() != 4096 {
-        return Err(PutRefusal::Range);
-    }
-    if !flash.is_ready() {
-        return Err(PutRefusal::Busy);
-    }
-    if let Some(sector) = first_locked(flash, at, bytes, guard.bytes) {
-        return Err(PutRefusal::Protected { sector });
-    }
-    Ok(write_sectors(flash, at, bytes, guard.bytes))
+    let work = guard.bytes.as_mut_array().ok_or(PutRefusal::Range)?;
+    put_through(flash, at, bytes, work)
 }

@@ -11,7 +11,6 @@ returns g c =
     let at = c.args.at in
     let bytes = c.args.bytes.now in
     let work = c.args.work.now in
-    let long = c.requires.long in
     let fits = c.requires.sector in
     let n : length (take (length bytes) work) ≡ length bytes = length-take-le (length bytes) work (omega arith) in
     let is = c.read_into.ensures ∙ ap (λ (k : ℕ). take k (drop at m.bytes)) n in

@@ -2,7 +2,6 @@ use Rattle.std.proofs.Common.{◌≡◌, ℕ, ◌+◌, ◌-◌, ◌/◌, ◌%◌
 use Rattle.writer.specs.Needed.{placed, is_touched}
 use Rattle.writer.proofs.Placing.{length_part, read_from}
 use Rattle.writer.proofs.Sectors.{in_sector, read_rises, kept_falls, made_nothing}
-use Rattle.cells.proofs.Stretches.{length_stretch}
 use Rattle.writer.proofs.sector.put_in_sector.Goals as goal
 
 -- what was read into a part of the work buffer
@@ -26,7 +25,7 @@ program_pages-programs-requires g c =
     let at = c.args.at in
     let bytes = c.args.bytes.now in
     let read = c.read_into.new.out in
-    let is = read_is m.bytes c.args.work.now bytes read at (at % 4096) c.requires.long c.requires.sector c.read_into.ensures in
+    let is = read_is m.bytes c.args.work.now bytes read at (at % 4096) (omega arith) c.requires.sector c.read_into.ensures in
     let inside = c.requires.within in
     let long = ap length is ∙ length_part m.bytes at (length bytes) inside in
     record {
@@ -45,13 +44,11 @@ rewrite-requires g c =
     let at = c.args.at in
     let bytes = c.args.bytes.now in
     let read = c.read_into.new.out in
-    let is = read_is m.bytes c.args.work.now bytes read at (at % 4096) c.requires.long c.requires.sector c.read_into.ensures in
+    let is = read_is m.bytes c.args.work.now bytes read at (at % 4096) (omega arith) c.requires.sector c.read_into.ensures in
     let inside = c.requires.within in
     let fits = c.requires.sector in
-    let long = c.requires.long in
     let n = ap length is ∙ length_part m.bytes at (length bytes) inside in
     record {
-      long = length_stretch (at % 4096) (at % 4096 + length bytes - at % 4096) c.args.work.now read (omega arith) (omega arith) ∙ long;
       ready = c.requires.ready;
       some = c.requires.some;
       sector = fits;

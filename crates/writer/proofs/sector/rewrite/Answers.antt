@@ -8,7 +8,7 @@ use Rattle.writer.specs.Put.{Made}
 use Rattle.writer.proofs.Placing.{length-begun}
 use Rattle.writer.proofs.Needing.{Falls, programs_most}
 use Rattle.writer.proofs.Paging.{made_programs, made_ticks}
-use Rattle.writer.proofs.Sectors.{Elsewhere, in_sector, blanked, blanked_in, blanked_falls, rewritten, rewrite_made}
+use Rattle.writer.proofs.Sectors.{composed, Elsewhere, in_sector, blanked, blanked_in, blanked_falls, rewritten, rewrite_made}
 use Rattle.writer.proofs.sector.rewrite.Goals as goal
 
 pub program_pages-programs-requires : goal.program_pages-programs-requires
@@ -27,13 +27,13 @@ program_pages-programs-requires g c =
     let sectors = sound.sectors in
     let there : sector * 4096 + 4096 ≤ length m.bytes = omega arith in
     let far = subst (λ (s : ℕ). Elsewhere s m.bytes new) (sym same) (in_sector at bytes m.bytes fits) in
-    let composed = subst (λ (s : ℕ). (k : ℕ) → k < 4096 → get_or work k 0 ≡ get_or new (s * 4096 + k) 0) (sym same) c.compose.ensures in
-    let long : length work ≡ 4096 = omega (arith, c.requires.long, c.compose.auto.work) in
+    let holds = subst (λ (s : ℕ). (k : ℕ) → k < 4096 → get_or work k 0 ≡ get_or new (s * 4096 + k) 0) (sym same) (composed at bytes m.bytes work fits (omega arith) c.compose.ensures) in
+    let long : length work ≡ 4096 = omega arith in
     let is = c.erase-erases.ensures.after in
     let held = ap (λ (x : Meaning). x.bytes) is in
     let count = ap length held ∙ length-changed (sector * 4096) 4096 erased m.bytes in
     let place : sector * 4096 / 4096 ≡ sector = omega arith in
-    let becomes = rewritten sector work m.bytes new long (length-begun at bytes (length bytes) m.bytes) composed far in
+    let becomes = rewritten sector work m.bytes new long (length-begun at bytes (length bytes) m.bytes) holds far in
     record {
       ready = ap (λ (x : Meaning). x.left) is;
       sector = omega arith;
@@ -76,12 +76,12 @@ returns g c =
     let inside = c.requires.within in
     let sectors = sound.sectors in
     let far = subst (λ (s : ℕ). Elsewhere s m.bytes new) (sym same) (in_sector at bytes m.bytes fits) in
-    let composed = subst (λ (s : ℕ). (k : ℕ) → k < 4096 → get_or work k 0 ≡ get_or new (s * 4096 + k) 0) (sym same) c.compose.ensures in
-    let long : length work ≡ 4096 = omega (arith, c.requires.long, c.compose.auto.work) in
+    let holds = subst (λ (s : ℕ). (k : ℕ) → k < 4096 → get_or work k 0 ≡ get_or new (s * 4096 + k) 0) (sym same) (composed at bytes m.bytes work fits (omega arith) c.compose.ensures) in
+    let long : length work ≡ 4096 = omega arith in
     let is = c.erase-erases.ensures.after in
     let becomes =
     ap (λ (x : Meaning). placed (sector * 4096) work x.bytes) is
-    ∙ rewritten sector work m.bytes new long (length-begun at bytes (length bytes) m.bytes) composed far
+    ∙ rewritten sector work m.bytes new long (length-begun at bytes (length bytes) m.bytes) holds far
     in
     let made = subst (λ (xs : List ℕ). Made xs here after (programs, 0, ticks)) becomes c.program_pages-programs.ensures in
     subst (λ (cost : ℕ × ℕ). Made new m after (programs, cost.0, cost.1 + ticks)) (sym c.erase-erases.ensures.cost)

@@ -39,7 +39,6 @@ put_in_sector-p-requires g c =
     let count = ap (λ (x : Meaning). length x.bytes) is in
     let sector = (at + pos) / 4096 in
     record {
-      long = omega (arith, c.requires.long, c.loop-pos.auto.work);
       ready = ap (λ (x : Meaning). x.left) is;
       some = omega arith;
       sector = omega arith;
