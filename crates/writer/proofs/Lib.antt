@@ -1,4 +1,5 @@
 pub mod Placing
+pub mod Parts
 pub mod Needing
 pub mod Paging
 pub mod Sectors

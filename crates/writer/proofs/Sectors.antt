@@ -11,15 +11,16 @@ use Rattle.cells.proofs.Ranges.{length-changed, get_or-changed, changed_inside, 
 use Rattle.cells.proofs.Rising.{rises-blank, rises_same}
 use Rattle.cells.proofs.Spans.{any_same, any_shifted, any_narrowed, none_at, none_inside}
 use Rattle.flash.specs.Meaning.{Meaning, Sound}
-use Rattle.writer.specs.Needed.{placed, differs_at, rises_at, written_at, is_touched, must_erase, must_program, programs_for, erases_for}
+use Rattle.writer.specs.Needed.{Falls, placed, differs_at, rises_at, written_at, is_touched, must_erase, must_program, programs_for, erases_for}
+use Rattle.writer.specs.Pieces.{composed}
 use Rattle.writer.specs.Put.{holding, Made}
-use Rattle.writer.proofs.Placing.{begun_all, begun_in, begun_out, length_part, read_from, holding-more, holding-still}
-use Rattle.writer.proofs.Needing.{Falls, falls_kept, differs_none, erase_none, erases_none, program_none, programs_none, program_differing}
+use Rattle.writer.proofs.Placing.{begun_all, begun_in, begun_out, length-begun, length_part, read_from, holding-more, holding-still}
+use Rattle.writer.proofs.Needing.{falls_kept, differs_none, erase_none, erases_none, program_none, programs_none, program_differing}
 use Rattle.writer.proofs.Paging.{made_from, made_programs, made_ticks, placed_same}
 
 -- what stands before the bytes, the bytes, and what stands behind them are what the sector is to hold
-pub composed : (at : ℕ) (bytes held work : List ℕ) → at % 4096 + length bytes ≤ 4096 → at / 4096 * 4096 + 4096 ≤ length held → work ≡ take (at % 4096) (drop (at - at % 4096) held) ++ (bytes ++ take (4096 - (at % 4096 + length bytes)) (drop (at + length bytes) held)) → (k : ℕ) → k < 4096 → get_or work k 0 ≡ get_or (placed at bytes held) (at / 4096 * 4096 + k) 0
-composed at bytes held work fits there is k h =
+pub composed_holds : (at : ℕ) (bytes held work : List ℕ) → at % 4096 + length bytes ≤ 4096 → at / 4096 * 4096 + 4096 ≤ length held → work ≡ composed at bytes held → (k : ℕ) → k < 4096 → get_or work k 0 ≡ get_or (placed at bytes held) (at / 4096 * 4096 + k) 0
+composed_holds at bytes held work fits there is k h =
     let start = at % 4096 in
     let base = at / 4096 * 4096 in
     let rest = 4096 - (start + length bytes) in
@@ -65,6 +66,10 @@ blanked_in sector old a low high there = get_or-changed (sector * 4096) 4096 era
 abbrev pub Elsewhere : ℕ → List ℕ → List ℕ → Type 0
 Elsewhere sector old new = (a : ℕ) → (a < sector * 4096) ⊎ (sector * 4096 + 4096 ≤ a) → get_or old a 0 ≡ get_or new a 0
 
+-- the bytes lie in the sector of their address
+pub in_sector : (at : ℕ) (bytes held : List ℕ) → at % 4096 + length bytes ≤ 4096 → Elsewhere (at / 4096) held (placed at bytes held)
+in_sector at bytes held fits a out = sym (begun_out at bytes (length bytes) held a (elim out [ inl h ↦ inl (omega arith) | inr h ↦ inr (omega arith) ]))
+
 -- an erased sector that got its new bytes
 pub rewritten : (sector : ℕ) (work old new : List ℕ) → length work ≡ 4096 → length new ≡ length old → ((k : ℕ) → k < 4096 → get_or work k 0 ≡ get_or new (sector * 4096 + k) 0) → Elsewhere sector old new → placed (sector * 4096) work (blanked sector old) ≡ new
 rewritten sector work old new long same inside elsewhere =
@@ -75,6 +80,12 @@ rewritten sector work old new long same inside elsewhere =
     (λ a out.
     let far : (a < sector * 4096) ⊎ (sector * 4096 + 4096 ≤ a) = elim out [ inl h ↦ inl h | inr h ↦ inr (omega arith) ] in
     sym (elsewhere a far) ∙ sym (changed_outside (sector * 4096) 4096 erased old a far)))
+
+-- so where it gets what a sector was composed to hold
+pub whole_placed : (at : ℕ) (bytes held : List ℕ) (b : ℕ) (these : List ℕ) → at % 4096 + length bytes ≤ 4096 → at / 4096 * 4096 + 4096 ≤ length held → b ≡ at / 4096 * 4096 → these ≡ composed at bytes held → length these ≡ 4096 → placed b these (blanked (at / 4096) held) ≡ placed at bytes held
+whole_placed at bytes held b these fits there place is long =
+    ap (λ (a : ℕ). placed a these (blanked (at / 4096) held)) place
+    ∙ rewritten (at / 4096) these held (placed at bytes held) long (length-begun at bytes (length bytes) held) (composed_holds at bytes held these fits there is) (in_sector at bytes held fits)
 
 -- from an erased sector on nothing has to rise
 pub blanked_falls : (sector : ℕ) (old new : List ℕ) → sector * 4096 + 4096 ≤ length old → Elsewhere sector old new → Falls (blanked sector old) new
@@ -132,10 +143,6 @@ rewrite_made sector new m erased-m after p t there elsewhere must is made =
     (sym (one_erase sector m.bytes new there elsewhere must))
     (omega arith)
     (made-here.holds ∙ holding-more m (blanked sector m.bytes) new 0 1 p 0 ∙ ap (λ (n : ℕ). holding new n 1 m) (omega arith))
-
--- the bytes lie in the sector of their address
-pub in_sector : (at : ℕ) (bytes held : List ℕ) → at % 4096 + length bytes ≤ 4096 → Elsewhere (at / 4096) held (placed at bytes held)
-in_sector at bytes held fits a out = sym (begun_out at bytes (length bytes) held a (elim out [ inl h ↦ inl (omega arith) | inr h ↦ inr (omega arith) ]))
 
 -- what was read against the bytes to be put tells what the sector needs, by any test of an old and a new byte that
 -- equal bytes do not pass

@@ -4,6 +4,7 @@
 mod compare;
 mod locked;
 mod pages;
+mod piece;
 mod refusal;
 mod sector;
 mod steps;

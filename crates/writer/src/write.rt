@@ -2,12 +2,13 @@
 ghost use Rattle.std.specs.Prelude.{◌≡◌, ℕ, ◌+◌, ◌<◌, ◌≤◌, false, length, replicate, nat_le};
 ghost use Rattle.writer.specs.Needed.{placed};
 ghost use Rattle.writer.specs.Operations.{FewestErases};
+ghost use Rattle.writer.specs.Pieces.{Fits};
 ghost use Rattle.writer.specs.Put.{Made, is_locked, put_answer, after_put};
 
 use crate::locked::first_locked;
+use crate::piece::Pieces;
 use crate::refusal::PutRefusal;
 use crate::sector::put_in_sector;
-use crate::steps::stretch;
 use crate::work::WorkBuffer;
 use flash::{NorFlash, ReadNorFlash};
 
@@ -19,22 +20,18 @@ fn write_sectors<F: NorFlash>(
     bytes: &[u8],
     work: &mut [u8; 4096],
 ) -> (u32, u32, u32)
-    requires ready { (F.NorFlash.meaning flash.old).left ≡ 0 }
-    requires within { at + length bytes.now ≤ length (F.NorFlash.meaning flash.old).bytes }
+    requires fits { Fits at (length bytes.now) (F.NorFlash.meaning flash.old) }
     requires free { (sector : ℕ) → sector < length (F.NorFlash.meaning flash.old).marks → is_locked (F.NorFlash.meaning flash.old) (placed at bytes.now (F.NorFlash.meaning flash.old).bytes) sector ≡ false }
     ensures { Made (placed at bytes.now (F.NorFlash.meaning flash.old).bytes) (F.NorFlash.meaning flash.old) (F.NorFlash.meaning flash.new) result }
 {
     let mut programs = 0;
     let mut erases = 0;
     let mut ticks = 0;
-    let mut pos = 0;
-    while pos < bytes.len() {
-        let len = stretch(at + pos, 4096, bytes.len() - pos);
-        let (p, e, t) = put_in_sector(flash, at + pos, &bytes[pos..pos + len], work);
+    for piece in Pieces::of(at, bytes) {
+        let (p, e, t) = put_in_sector(flash, piece, work);
         programs += p;
         erases += e;
         ticks += t;
-        pos += len;
     }
     (programs, erases, ticks)
 }

@@ -1,4 +1,4 @@
-use Rattle.std.proofs.Common.{ℕ, length, sym, ap, arith, rules}
+use Rattle.std.proofs.Common.{ℕ, length, sym, ap, arith}
 use Rattle.cells.proofs.Spans.{none_first}
 use Rattle.flash.specs.Meaning.{Meaning}
 use Rattle.writer.specs.Needed.{placed}
@@ -6,23 +6,16 @@ use Rattle.writer.specs.Put.{is_locked}
 use Rattle.writer.proofs.Fewest.{fewest}
 use Rattle.writer.proofs.write.put_through.Goals as goal
 
-pub write_sectors-requires : goal.write_sectors-requires
-write_sectors-requires g c =
+-- no sector is locked, since there is no first one
+pub write_sectors-requires-clause-free : goal.write_sectors-requires-clause-free
+write_sectors-requires-clause-free g c sector h =
     let m = g.F.NorFlash.meaning c.args.flash.now in
-    record {
-      ready = search rules;
-      within = search rules;
-      free = λ sector h. none_first (is_locked m (placed c.args.at c.args.bytes.now m.bytes)) 0 (length m.marks) (sym c.in_default.ensures) sector (omega arith) (omega arith);
-    }
+    none_first (is_locked m (placed c.args.at c.args.bytes.now m.bytes)) 0 (length m.marks) (sym c.in_default.ensures) sector (omega arith) (omega arith)
 
-pub returns : goal.returns
-returns g c =
+pub returns-clause-fewest : goal.returns-clause-fewest
+returns-clause-fewest g c =
     let m = g.F.NorFlash.meaning c.args.flash.now in
     let new = placed c.args.at c.args.bytes.now m.bytes in
     let spent = c.write_sectors.ensures.spent in
     let holds = c.write_sectors.ensures.holds in
-    record {
-      answer = search rules;
-      after = holds;
-      fewest = fewest m.bytes new (g.F.NorFlash.meaning c.write_sectors.new.flash).bytes c.write_sectors.result.1 (ap (λ (t : ℕ × ℕ × ℕ). t.1) spent) (ap (λ (x : Meaning). x.bytes) holds);
-    }
+    fewest m.bytes new (g.F.NorFlash.meaning c.write_sectors.new.flash).bytes c.write_sectors.result.1 (ap (λ (t : ℕ × ℕ × ℕ). t.1) spent) (ap (λ (x : Meaning). x.bytes) holds)
