@@ -1,7 +1,7 @@
 -- A part of one page is programmed.
-use Rattle.std.specs.Borrow.{Bor}
-use Rattle.std.proofs.Common.{Some, None, Option, ◌≡◌, ℕ, ◌+◌, ◌-◌, ◌*◌, ◌/◌, ◌<◌, ◌≤◌, false, not, eqb, List, length, get_or, sym, refl, ap, ◌∙◌, subst, inr, add-mul, arith}
+use Rattle.std.proofs.Common.{Bool, cond, ◌≡◌, ℕ, ◌+◌, ◌-◌, ◌*◌, ◌/◌, ◌<◌, ◌≤◌, false, not, eqb, List, length, get_or, sym, refl, ap, ◌∙◌, subst, inr, add-mul, arith}
 use lib.Bits.{bit_and}
+use Rattle.std.proofs.lemmas.Nat.{mul-le}
 use Rattle.std.proofs.lemmas.Bool.{eqb-true, not-false}
 use Rattle.cells.specs.Bytes.{changed}
 use Rattle.cells.specs.Changes.{anded}
@@ -12,11 +12,10 @@ use Rattle.cells.proofs.Spans.{none_at, any_shifted}
 use Rattle.flash.specs.Meaning.{Meaning, Sound}
 use Rattle.writer.specs.Needed.{Falls, placed, differs_at, programs_for, erases_for}
 use Rattle.writer.specs.Put.{holding, Made}
-use Rattle.writer.specs.Before.{KnownTo}
 use Rattle.writer.specs.declared.piece.Piece.{Piece}
 use Rattle.writer.proofs.Parts.{Part, part_more}
 use Rattle.writer.proofs.Placing.{Halfway, begun, length-begun, begun_all, begun_in, begun_out, begun_none, begun_halfway, holding-more, holding-still}
-use Rattle.writer.proofs.Needing.{falls_erases, falls_first, falls_then, pages_join, programs_none}
+use Rattle.writer.proofs.Needing.{page_once, programs_most, erases_most, falls_erases, falls_first, falls_then, pages_join, programs_none}
 
 -- an AND with bytes in which no bit has to rise puts them there
 pub anded_places : (at : ℕ) (bytes old : List ℕ) → ((k : ℕ) → get_or bytes k 0 < 256) → Falls old (placed at bytes old) → changed at (length bytes) (anded at bytes) old ≡ placed at bytes old
@@ -41,6 +40,14 @@ placed_same at bytes old none =
     eqb-true _ _ (not-false (eqb (get_or old a 0) (get_or new a 0)) (none_at (differs_at old new) at (length bytes) a none low high))
     ∙ begun_in at bytes (length bytes) old a low high there)
     (λ a out. refl)
+
+-- a piece of one page is one program, if some byte of it has to change
+pub page_programs : (piece : Piece 256) (m : Meaning) (b differs : Bool) → Sound m → piece.at + length piece.bytes.now ≤ length m.bytes → Falls m.bytes (placed piece.at piece.bytes.now m.bytes) → differs ≡ any_in (differs_at m.bytes (placed piece.at piece.bytes.now m.bytes)) piece.at (length piece.bytes.now) → differs ≡ b → cond b 1 0 ≡ programs_for m.bytes (placed piece.at piece.bytes.now m.bytes)
+page_programs piece m b differs sound there falls told is =
+    let sectors = sound.sectors in
+    sym
+    (page_once piece.at (length piece.bytes.now) m.bytes (placed piece.at piece.bytes.now m.bytes) piece.some piece.inside there (omega arith) falls (λ a out. sym (begun_out piece.at piece.bytes.now (length piece.bytes.now) m.bytes a out))
+    ∙ ap (λ (x : Bool). cond {A = ℕ} x 1 0) (sym told ∙ is))
 
 -- a change that was made, from its counts one by one
 pub made_from : (new : List ℕ) (before after : Meaning) (p e t : ℕ) → p ≡ programs_for before.bytes new → e ≡ erases_for before.bytes new → t ≡ p * before.program_ticks + e * before.erase_ticks → after ≡ holding new p e before → Made new before after (p, e, t)
@@ -71,10 +78,27 @@ made_ticks new before after p e t made =
     ∙ ap (λ (n : ℕ). n * before.program_ticks + erases_for before.bytes new * before.erase_ticks) (sym (made_programs new before after p e t made))
     ∙ ap (λ (n : ℕ). p * before.program_ticks + n * before.erase_ticks) (sym (made_erases new before after p e t made))
 
--- what is known of a stretch is known of its front
-pub known_less : (n m : ℕ) (before : Option (Bor (List ℕ))) → n ≤ m → KnownTo m before → KnownTo n before
-known_less n m None h known = tt
-known_less n m (Some old) h known = omega arith
+-- none of the counts comes near 2^32
+pub record Few (p e t : ℕ) : Type 0 where
+  pub programs : p ≤ 4096
+  pub erases : e ≤ 256
+  pub ticks : t ≤ 285212672
+
+pub few : (m : Meaning) (new : List ℕ) (p e t : ℕ) → Sound m → p ≡ programs_for m.bytes new → e ≡ erases_for m.bytes new → t ≡ p * m.program_ticks + e * m.erase_ticks → Few p e t
+few m new p e t sound programs erases ticks =
+    let sectors = sound.sectors in
+    let most = sound.most in
+    let program_high = sound.program_high in
+    let erase_high = sound.erase_high in
+    let p-most = programs_most m.bytes new p programs in
+    let e-most = erases_most m.bytes new e erases in
+    let a = mul-le p m.program_ticks 4096 65536 (omega arith) (omega arith) in
+    let b = mul-le e m.erase_ticks 256 65536 (omega arith) (omega arith) in
+    record { programs = omega arith; erases = omega arith; ticks = omega arith }
+
+pub made_few : (new : List ℕ) (before after : Meaning) (p e t : ℕ) → Sound before → Made new before after (p, e, t) → Few p e t
+made_few new before after p e t sound made =
+    few before new p e t sound (made_programs new before after p e t made) (made_erases new before after p e t made) (made_ticks new before after p e t made)
 
 -- a part of a put that needs no erase needs none
 falls_over : (at : ℕ) (bytes : List ℕ) (n : ℕ) (old : List ℕ) → n ≤ length bytes → at + length bytes ≤ length old → Falls old (placed at bytes old) → Falls old (begun at bytes n old)
@@ -139,6 +163,11 @@ pub pages_done : (at : ℕ) (bytes : List ℕ) (pos : ℕ) (m after : Meaning) (
 pages_done at bytes pos m after programs ticks all falls so_far =
     let done = subst (λ (n : ℕ). PagesMade at bytes n m after programs ticks) all so_far in
     made_falling (placed at bytes m.bytes) m after programs ticks falls done.count done.time done.holds
+
+pub pages_few : (at : ℕ) (bytes : List ℕ) (pos : ℕ) (m now : Meaning) (programs ticks : ℕ) → at + length bytes ≤ length m.bytes → pos ≤ length bytes → Sound m → Falls m.bytes (placed at bytes m.bytes) → PagesMade at bytes pos m now programs ticks → Few programs 0 ticks
+pages_few at bytes pos m now programs ticks there short sound falls so_far =
+    let time = so_far.time in
+    few m (begun at bytes pos m.bytes) programs 0 ticks sound so_far.count (sym (falls_erases m.bytes _ (falls_over at bytes pos m.bytes short there falls))) (omega arith)
 
 -- what is known of the bytes before tells whether a part has to change
 pub part_changes : (at : ℕ) (bytes : List ℕ) (pos : ℕ) (old : List ℕ) (before : ℕ → ℕ) (piece : Piece 256) → Part 256 at bytes old pos piece → ((k : ℕ) → k < length bytes → before k ≡ get_or old (at + k) 0) → (i : ℕ) → i ≡ pos → any_in (λ k. not (eqb (before (i + k)) (get_or piece.bytes.now k 0))) 0 (length piece.bytes.now) ≡ any_in (differs_at (begun at bytes pos old) (placed piece.at piece.bytes.now (begun at bytes pos old))) piece.at (length piece.bytes.now)

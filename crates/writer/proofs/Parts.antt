@@ -31,7 +31,7 @@ rounded a unit some =
     ap (λ (n : ℕ). n % unit) e ∙ mul-mod_right unit (a / unit + 1)
 
 -- a step of the walk takes such a piece
-pub walk_part : (unit at : ℕ) (bytes held : List ℕ) (pieces after : Pieces unit) (piece : Piece unit) → Walk unit at bytes pieces → TakesPiece unit pieces (Some piece) after → at + length bytes ≤ length held → Part unit at bytes held (length bytes - length pieces.rest.now) piece
+walk_part : (unit at : ℕ) (bytes held : List ℕ) (pieces after : Pieces unit) (piece : Piece unit) → Walk unit at bytes pieces → TakesPiece unit pieces (Some piece) after → at + length bytes ≤ length held → Part unit at bytes held (length bytes - length pieces.rest.now) piece
 walk_part unit at bytes held pieces after piece walk takes there =
     let short = walk.short in
     let place = walk.place in
@@ -50,7 +50,7 @@ walk_part unit at bytes held pieces after piece walk takes there =
     }
 
 -- and goes on behind it
-pub walk_on : (unit at : ℕ) (bytes : List ℕ) (pieces after : Pieces unit) (piece : Piece unit) → Walk unit at bytes pieces → TakesPiece unit pieces (Some piece) after → Walk unit at bytes after
+walk_on : (unit at : ℕ) (bytes : List ℕ) (pieces after : Pieces unit) (piece : Piece unit) → Walk unit at bytes pieces → TakesPiece unit pieces (Some piece) after → Walk unit at bytes after
 walk_on unit at bytes pieces after piece walk takes =
     let short = walk.short in
     let place = walk.place in
@@ -67,6 +67,21 @@ walk_on unit at bytes pieces after piece walk takes =
           let e : after.at ≡ pieces.at + (unit - pieces.at % unit) = omega arith in
           ap (λ (n : ℕ). n % unit) e ∙ rounded pieces.at unit pieces.unit;
     }
+
+-- a turn of the walk: the piece, and what is left behind it
+pub record Turn (unit at : ℕ) (bytes held : List ℕ) (pieces after : Pieces unit) (piece : Piece unit) : Type 0 where
+  pub part : Part unit at bytes held (length bytes - length pieces.rest.now) piece
+  pub walk : Walk unit at bytes after
+  pub on : length bytes - length after.rest.now ≡ length bytes - length pieces.rest.now + length piece.bytes.now
+
+pub turn : (unit at : ℕ) (bytes held : List ℕ) (pieces after : Pieces unit) (piece : Piece unit) → Walk unit at bytes pieces → TakesPiece unit pieces (Some piece) after → at + length bytes ≤ length held → Turn unit at bytes held pieces after piece
+turn unit at bytes held pieces after piece walk takes there =
+    let next = walk_on unit at bytes pieces after piece walk takes in
+    let before = walk.place in
+    let behind = next.place in
+    let short = next.short in
+    let is = takes.2 in
+    record { part = walk_part unit at bytes held pieces after piece walk takes there; walk = next; on = omega arith }
 
 -- a piece stands behind those before it
 pub part_more : (unit at : ℕ) (bytes held : List ℕ) (pos : ℕ) (piece : Piece unit) → Part unit at bytes held pos piece → placed piece.at piece.bytes.now (begun at bytes pos held) ≡ begun at bytes (pos + length piece.bytes.now) held

@@ -9,7 +9,7 @@ use Rattle.writer.specs.Put.{holding, Made, is_locked}
 use Rattle.writer.proofs.Parts.{Part, part_more}
 use Rattle.writer.proofs.Placing.{Halfway, begun, length-begun, begun_in, begun_out, begun_none, begun_halfway, holding-more, holding-still}
 use Rattle.writer.proofs.Needing.{Agree, differs_none, differs_same, programs_none, erases_none, programs_join, erases_join}
-use Rattle.writer.proofs.Paging.{made_from, made_programs, made_erases, made_ticks}
+use Rattle.writer.proofs.Paging.{Few, few, made_programs, made_erases, made_ticks}
 
 -- in its sector the piece is all that is put
 pub piece_new : (at : ℕ) (bytes held : List ℕ) (pos : ℕ) (piece : Piece 4096) → Part 4096 at bytes held pos piece → Agree (piece.at / 4096 * 4096) 4096 (begun at bytes (pos + length piece.bytes.now) held) (placed at bytes held)
@@ -168,7 +168,5 @@ sectors_step at bytes pos m mid after programs erases ticks p e t piece part so_
       time = omega arith;
     }
 
-pub sectors_done : (at : ℕ) (bytes : List ℕ) (pos : ℕ) (m after : Meaning) (programs erases ticks : ℕ) → pos ≡ length bytes → SectorsMade at bytes pos m after programs erases ticks → Made (placed at bytes m.bytes) m after (programs, erases, ticks)
-sectors_done at bytes pos m after programs erases ticks all so_far =
-    let done = subst (λ (n : ℕ). SectorsMade at bytes n m after programs erases ticks) all so_far in
-    made_from (placed at bytes m.bytes) m after programs erases ticks done.programmed done.erased done.time done.holds
+pub sectors_few : (at : ℕ) (bytes : List ℕ) (pos : ℕ) (m now : Meaning) (programs erases ticks : ℕ) → Sound m → SectorsMade at bytes pos m now programs erases ticks → Few programs erases ticks
+sectors_few at bytes pos m now programs erases ticks sound so_far = few m (begun at bytes pos m.bytes) programs erases ticks sound so_far.programmed so_far.erased so_far.time

@@ -1,5 +1,5 @@
 // Programs a stretch of one sector, page by page.
-ghost use Rattle.std.specs.Prelude.{◌≡◌, ℕ, ◌+◌, ◌*◌, ◌/◌, ◌%◌, ◌<◌, ◌≤◌, false, not, length, ◌==◌, slice_index, slice_index_or};
+ghost use Rattle.std.specs.Prelude.{◌≡◌, ℕ, ◌+◌, ◌/◌, ◌<◌, false, not, length, ◌==◌, slice_index, slice_index_or};
 ghost use Rattle.cells.specs.Tests.{any_in};
 ghost use Rattle.writer.specs.Before.{byte_before, KnownTo};
 ghost use Rattle.writer.specs.Needed.{placed, differs_at, Falls};

@@ -1,6 +1,5 @@
 // Bytes that are to stand from an address on, piece by piece.
-ghost use Rattle.std.specs.Prelude.{◌≡◌, ◌+◌, ◌-◌, ◌*◌, ◌/◌, ◌%◌, ◌^◌, ◌<◌, ◌≤◌, List, length, MatchOption};
-ghost use Rattle.std.specs.Iterator.{at_most};
+ghost use Rattle.std.specs.Prelude.{◌+◌, ◌%◌, ◌^◌, ◌<◌, ◌≤◌, length};
 
 mod calls;
 
@@ -16,8 +15,8 @@ pub(crate) struct Piece<'a, const UNIT: usize> {
 /// The pieces of bytes that are to stand from an address on, each as long as its unit allows.
 #[derive(Drop)]
 pub(crate) struct Pieces<'a, const UNIT: usize> {
-    pub(crate) at: usize,
-    pub(crate) rest: &'a [u8],
+    at: usize,
+    rest: &'a [u8],
     ghost unit: { 0 < UNIT },
     ghost small: { at + length rest.now < 2 ^ 64 },
 }

@@ -1,5 +1,5 @@
 // Single steps on a flash that is ready.
-ghost use Rattle.std.specs.Prelude.{◌≡◌, ℕ, ◌+◌, ◌-◌, ◌*◌, ◌/◌, ◌%◌, ◌<◌, ◌≤◌, min, false, length, take, drop, Ok, slice_index_or};
+ghost use Rattle.std.specs.Prelude.{◌≡◌, ◌*◌, ◌<◌, false, length, take, drop, Ok, slice_index_or};
 ghost use Rattle.cells.specs.Bytes.{changed};
 ghost use Rattle.cells.specs.Changes.{erased};
 ghost use Rattle.flash.specs.Answers.{program_answer, erase_answer, fresh};
@@ -8,13 +8,6 @@ ghost use Rattle.writer.specs.Pieces.{Fits};
 ghost use Rattle.writer.specs.Put.{holding};
 
 use flash::{NorFlash, ReadNorFlash, erase_and_wait, program_and_wait};
-
-// The sector in which an address lies.
-pub(crate) fn sector_of(at: usize) -> usize
-    ensures { result ≡ at / 4096 }
-{
-    at / 4096
-}
 
 // Reads from an address on.
 pub(crate) fn read_into<F: NorFlash>(flash: &F, at: usize, out: &mut [u8])

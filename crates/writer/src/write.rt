@@ -1,5 +1,5 @@
 // Puts bytes into any flash.
-ghost use Rattle.std.specs.Prelude.{◌≡◌, ℕ, ◌+◌, ◌<◌, ◌≤◌, false, length, replicate, nat_le};
+ghost use Rattle.std.specs.Prelude.{◌≡◌, ℕ, ◌+◌, ◌<◌, false, length, replicate, nat_le};
 ghost use Rattle.writer.specs.Needed.{placed};
 ghost use Rattle.writer.specs.Operations.{FewestErases};
 ghost use Rattle.writer.specs.Pieces.{Fits};

@@ -4,7 +4,6 @@ ghost use Rattle.std.specs.Iterator.{at_most};
 ghost use Rattle.writer.specs.Pieces.{TakesPiece};
 
 use crate::piece::{Piece, Pieces};
-use crate::steps::sector_of;
 
 impl<'a> Piece<'a, 4096> {
     // The whole of a sector.
@@ -23,7 +22,7 @@ impl<'a> Piece<'a, 4096> {
     pub(crate) fn sector(self) -> usize
         ensures { result ≡ self.entry.at / 4096 }
     {
-        sector_of(self.at)
+        self.at / 4096
     }
 }
 

@@ -2,7 +2,7 @@ use Rattle.std.proofs.Common.{◌≡◌, ℕ, ◌-◌, ◌/◌, Bool, false, ◌
 use Rattle.cells.proofs.Spans.{first_found, first_none}
 use Rattle.writer.specs.Needed.{placed}
 use Rattle.writer.specs.Put.{is_locked}
-use Rattle.writer.proofs.Parts.{walk_part, walk_on}
+use Rattle.writer.proofs.Parts.{turn}
 use Rattle.writer.proofs.Walking.{piece_alone, free_more, free_before, free_all}
 use Rattle.writer.proofs.locked.first_locked.Goals as goal
 
@@ -14,7 +14,7 @@ returns-then-is_locked g c =
     let bytes = c.args.bytes.now in
     let pos = length bytes - length c.loop-piece.piece-iterator.rest.now in
     let piece = c.in-Some.piece in
-    let part = walk_part 4096 at bytes m.bytes c.loop-piece.piece-iterator c.next.new.self piece c.loop-piece.invariant.0 c.in-Some.ensures.steps c.requires.within in
+    let part = (turn 4096 at bytes m.bytes c.loop-piece.piece-iterator c.next.new.self piece c.loop-piece.invariant.0 c.in-Some.ensures.steps c.requires.within).part in
     let place = part.place in
     let inside = part.inside in
     let some = piece.some in
@@ -32,16 +32,9 @@ loop-piece-preserved g c =
     let bytes = c.args.bytes.now in
     let pos = length bytes - length c.loop-piece.piece-iterator.rest.now in
     let piece = c.in-Some.piece in
-    let walk = c.loop-piece.invariant.0 in
-    let takes = c.in-Some.ensures.steps in
-    let part = walk_part 4096 at bytes m.bytes c.loop-piece.piece-iterator c.next.new.self piece walk takes c.requires.within in
-    let here : is_locked m (placed at bytes m.bytes) (piece.at / 4096) ≡ false = sym (c.if-is_locked.ensures ∙ ap (λ (b : Bool). get_or m.marks (piece.at / 4096) false && b) (piece_alone at bytes m.bytes pos piece part)) in
-    let next = walk_on 4096 at bytes c.loop-piece.piece-iterator c.next.new.self piece walk takes in
-    let before = walk.place in
-    let after = next.place in
-    let on = takes.2 in
-    let short = next.short in
-    (next, free_more at bytes pos m piece part c.loop-piece.invariant.1 here _ (omega arith))
+    let is = turn 4096 at bytes m.bytes c.loop-piece.piece-iterator c.next.new.self piece c.loop-piece.invariant.0 c.in-Some.ensures.steps c.requires.within in
+    let here : is_locked m (placed at bytes m.bytes) (piece.at / 4096) ≡ false = sym (c.if-is_locked.ensures ∙ ap (λ (b : Bool). get_or m.marks (piece.at / 4096) false && b) (piece_alone at bytes m.bytes pos piece is.part)) in
+    (is.walk, free_more at bytes pos m piece is.part c.loop-piece.invariant.1 here _ is.on)
 
 pub returns : goal.returns
 returns g c =

@@ -1,12 +1,10 @@
 use Rattle.std.proofs.Common.{◌≡◌, ℕ, ◌-◌, List, length, sym, ap, ◌∙◌, subst, rules, arith}
-use Rattle.std.proofs.lemmas.Nat.{mul-le}
 use Rattle.cells.specs.Tests.{any_in}
 use Rattle.flash.specs.Meaning.{Meaning}
 use Rattle.writer.specs.Before.{byte_before}
 use Rattle.writer.specs.Needed.{Falls, placed, differs_at}
-use Rattle.writer.proofs.Needing.{programs_most}
-use Rattle.writer.proofs.Paging.{PagesMade, pages_start, pages_step, pages_done, step_falls, part_changes, made_programs, made_ticks}
-use Rattle.writer.proofs.Parts.{walk_part, walk_on}
+use Rattle.writer.proofs.Paging.{PagesMade, pages_start, pages_step, pages_done, step_falls, part_changes, pages_few, made_few}
+use Rattle.writer.proofs.Parts.{turn}
 use Rattle.writer.proofs.pages.program_pages.Goals as goal
 
 pub loop-part-init : goal.loop-part-init
@@ -28,9 +26,9 @@ put_in_page-more-requires-clause-falls g c =
     let at = c.args.piece.at in
     let bytes = c.args.piece.bytes.now in
     let part = c.in-Some.part in
-    let is = walk_part 256 at bytes m.bytes c.loop-part.part-iterator c.next.new.self part c.loop-part.invariant.0 c.in-Some.ensures.steps c.requires.fits.within in
+    let is = turn 256 at bytes m.bytes c.loop-part.part-iterator c.next.new.self part c.loop-part.invariant.0 c.in-Some.ensures.steps c.requires.fits.within in
     let held = ap (λ (x : Meaning). x.bytes) c.loop-part.invariant.1.holds in
-    subst (λ (xs : List ℕ). Falls xs (placed part.at part.bytes.now xs)) (sym held) (step_falls at bytes _ m.bytes part is c.requires.falls)
+    subst (λ (xs : List ℕ). Falls xs (placed part.at part.bytes.now xs)) (sym held) (step_falls at bytes _ m.bytes part is.part c.requires.falls)
 
 pub put_in_page-more-requires-clause-differs : goal.put_in_page-more-requires-clause-differs
 put_in_page-more-requires-clause-differs g c =
@@ -38,33 +36,25 @@ put_in_page-more-requires-clause-differs g c =
     let at = c.args.piece.at in
     let bytes = c.args.piece.bytes.now in
     let part = c.in-Some.part in
-    let is = walk_part 256 at bytes m.bytes c.loop-part.part-iterator c.next.new.self part c.loop-part.invariant.0 c.in-Some.ensures.steps c.requires.fits.within in
+    let is = turn 256 at bytes m.bytes c.loop-part.part-iterator c.next.new.self part c.loop-part.invariant.0 c.in-Some.ensures.steps c.requires.fits.within in
     let held = ap (λ (x : Meaning). x.bytes) c.loop-part.invariant.1.holds in
-    let place = is.place in
+    let place = is.part.place in
     c.part_differs-differs.ensures
-    ∙ part_changes at bytes _ m.bytes (byte_before c.args.before) part is c.requires.before (part.at - at) (omega arith)
+    ∙ part_changes at bytes _ m.bytes (byte_before c.args.before) part is.part c.requires.before (part.at - at) (omega arith)
     ∙ ap (λ (xs : List ℕ). any_in (differs_at xs (placed part.at part.bytes.now xs)) part.at (length part.bytes.now)) (sym held)
 
 pub overflow_add-programs : goal.overflow_add-programs
 overflow_add-programs g c =
-    let sound = g.met.F.NorFlash.sound c.args.flash.now in
-    let sound-here = g.met.F.NorFlash.sound c.loop-part.flash in
-    let first = programs_most _ _ _ c.loop-part.invariant.1.count in
-    let more = programs_most _ _ _ (made_programs _ _ _ _ _ _ c.put_in_page-more.ensures) in
+    let short = c.loop-part.invariant.0.short in
+    let so_far = pages_few _ _ _ _ _ _ _ c.requires.fits.within (omega arith) (g.met.F.NorFlash.sound c.args.flash.now) c.requires.falls c.loop-part.invariant.1 in
+    let more = made_few _ _ _ _ _ _ (g.met.F.NorFlash.sound c.loop-part.flash) c.put_in_page-more.ensures in
     omega arith
 
 pub overflow_add-ticks : goal.overflow_add-ticks
 overflow_add-ticks g c =
-    let m = g.F.NorFlash.meaning c.args.flash.now in
-    let sound = g.met.F.NorFlash.sound c.args.flash.now in
-    let here = g.F.NorFlash.meaning c.loop-part.flash in
-    let sound-here = g.met.F.NorFlash.sound c.loop-part.flash in
-    let first = programs_most _ _ _ c.loop-part.invariant.1.count in
-    let more = programs_most _ _ _ (made_programs _ _ _ _ _ _ c.put_in_page-more.ensures) in
-    let spent = made_ticks _ _ _ _ _ _ c.put_in_page-more.ensures in
-    let t = c.loop-part.invariant.1.time in
-    let a = mul-le c.loop-part.programs m.program_ticks 4096 65536 (omega arith) (omega arith) in
-    let b = mul-le c.put_in_page-more.result.0 here.program_ticks 4096 65536 (omega arith) (omega arith) in
+    let short = c.loop-part.invariant.0.short in
+    let so_far = pages_few _ _ _ _ _ _ _ c.requires.fits.within (omega arith) (g.met.F.NorFlash.sound c.args.flash.now) c.requires.falls c.loop-part.invariant.1 in
+    let more = made_few _ _ _ _ _ _ (g.met.F.NorFlash.sound c.loop-part.flash) c.put_in_page-more.ensures in
     omega arith
 
 pub loop-part-preserved : goal.loop-part-preserved
@@ -73,17 +63,8 @@ loop-part-preserved g c =
     let at = c.args.piece.at in
     let bytes = c.args.piece.bytes.now in
     let part = c.in-Some.part in
-    let walk = c.loop-part.invariant.0 in
-    let takes = c.in-Some.ensures.steps in
-    let is = walk_part 256 at bytes m.bytes c.loop-part.part-iterator c.next.new.self part walk takes c.requires.fits.within in
-    let next = walk_on 256 at bytes c.loop-part.part-iterator c.next.new.self part walk takes in
-    let before = walk.place in
-    let after = next.place in
-    let short = next.short in
-    let on = takes.2 in (
-      next,
-      pages_step at bytes _ m (g.F.NorFlash.meaning c.loop-part.flash) _ c.loop-part.programs c.loop-part.ticks c.put_in_page-more.result.0 c.put_in_page-more.result.1 part is c.requires.falls c.loop-part.invariant.1 c.put_in_page-more.ensures _ (omega arith),
-    )
+    let is = turn 256 at bytes m.bytes c.loop-part.part-iterator c.next.new.self part c.loop-part.invariant.0 c.in-Some.ensures.steps c.requires.fits.within in
+    (is.walk, pages_step at bytes _ m (g.F.NorFlash.meaning c.loop-part.flash) _ c.loop-part.programs c.loop-part.ticks c.put_in_page-more.result.0 c.put_in_page-more.result.1 part is.part c.requires.falls c.loop-part.invariant.1 c.put_in_page-more.ensures _ is.on)
 
 pub returns : goal.returns
 returns g c =

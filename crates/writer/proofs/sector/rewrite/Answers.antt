@@ -1,11 +1,9 @@
 use Rattle.std.proofs.Common.{◌≡◌, ℕ, ◌+◌, ◌*◌, ◌/◌, ◌≤◌, List, length, get_or, sym, ap, ◌∙◌, subst, rules, arith}
-use Rattle.std.proofs.lemmas.Nat.{mul-le}
 use Rattle.flash.specs.Meaning.{Meaning}
 use Rattle.writer.specs.Needed.{Falls, placed}
 use Rattle.writer.specs.Pieces.{composed}
 use Rattle.writer.specs.Put.{Made, holding}
-use Rattle.writer.proofs.Needing.{programs_most}
-use Rattle.writer.proofs.Paging.{made_programs, made_ticks}
+use Rattle.writer.proofs.Paging.{made_few}
 use Rattle.writer.proofs.Sectors.{in_sector, blanked, blanked_in, blanked_falls, whole_placed, rewrite_made}
 use Rattle.writer.proofs.sector.rewrite.Goals as goal
 
@@ -39,14 +37,9 @@ program_pages-programs-requires-clause-before g c k h =
 
 pub overflow_add-result : goal.overflow_add-result
 overflow_add-result g c =
-    let m = g.F.NorFlash.meaning c.args.flash.now in
     let sound = g.met.F.NorFlash.sound c.args.flash.now in
-    let here = g.F.NorFlash.meaning c.erase-erases.new.flash in
-    let sound-here = g.met.F.NorFlash.sound c.erase-erases.new.flash in
-    let programs = programs_most _ _ _ (made_programs _ _ _ _ _ _ c.program_pages-programs.ensures) in
-    let ticks = made_ticks _ _ _ _ _ _ c.program_pages-programs.ensures in
-    let a = mul-le c.program_pages-programs.result.0 here.program_ticks 4096 65536 (omega arith) (omega arith) in
-    let b = ap (λ (cost : ℕ × ℕ). cost.1) c.erase-erases.ensures.cost in
+    let after = made_few _ _ _ _ _ _ (g.met.F.NorFlash.sound c.erase-erases.new.flash) c.program_pages-programs.ensures in
+    let spent = ap (λ (cost : ℕ × ℕ). cost.1) c.erase-erases.ensures.cost in
     omega arith
 
 pub returns : goal.returns
