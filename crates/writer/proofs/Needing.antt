@@ -7,7 +7,7 @@ use Rattle.cells.proofs.Counts.{count_none, count_one, count_most, count_split}
 use Rattle.cells.proofs.Rising.{rises_same}
 use Rattle.cells.proofs.Spans.{any_none, any_same, any_narrowed}
 use Rattle.writer.proofs.Placing.{Halfway}
-use Rattle.writer.specs.Needed.{differs_at, rises_at, written_at, must_erase, must_program, programs_for, erases_for}
+use Rattle.writer.specs.Needed.{Falls, differs_at, rises_at, written_at, must_erase, must_program, programs_for, erases_for}
 
 -- two lists agree at the n addresses from first on
 abbrev pub Agree : ℕ → ℕ → List ℕ → List ℕ → Type 0
@@ -98,10 +98,6 @@ programs_join b old mid new whole half =
           inr
           (program_none old mid k (λ a l u. sym (half.above a (omega arith))), program_same mid new old new k (λ a l u. half.above a (omega arith)) (λ a l u. refl))
     ])
-
--- no bit has to go from 0 to 1
-abbrev pub Falls : List ℕ → List ℕ → Type 0
-Falls old new = (a : ℕ) → rises_at old new a ≡ false
 
 pub falls_kept : (old new : List ℕ) → Falls old new → (sector : ℕ) → must_erase old new sector ≡ false
 falls_kept old new falls sector = any_none (rises_at old new) (sector * 4096) 4096 (λ a low high. falls a)

@@ -1,6 +1,7 @@
 -- A part of one page is programmed.
-use Rattle.std.proofs.Common.{◌≡◌, ℕ, ◌+◌, ◌-◌, ◌*◌, ◌/◌, ◌%◌, ◌<◌, ◌≤◌, false, not, eqb, List, length, get_or, take, drop, sym, refl, ap, ◌∙◌, subst, inr, add-mul, arith}
+use Rattle.std.proofs.Common.{Bool, cond, ◌≡◌, ℕ, ◌+◌, ◌-◌, ◌*◌, ◌/◌, ◌<◌, ◌≤◌, false, not, eqb, List, length, get_or, sym, refl, ap, ◌∙◌, subst, inr, add-mul, arith}
 use lib.Bits.{bit_and}
+use Rattle.std.proofs.lemmas.Nat.{mul-le}
 use Rattle.std.proofs.lemmas.Bool.{eqb-true, not-false}
 use Rattle.cells.specs.Bytes.{changed}
 use Rattle.cells.specs.Changes.{anded}
@@ -9,13 +10,12 @@ use Rattle.cells.proofs.Ranges.{length-changed, get_or-changed, changed_inside, 
 use Rattle.cells.proofs.Rising.{and_reaches}
 use Rattle.cells.proofs.Spans.{none_at, any_shifted}
 use Rattle.flash.specs.Meaning.{Meaning, Sound}
-use Rattle.writer.specs.Needed.{placed, differs_at, programs_for, erases_for}
+use Rattle.writer.specs.Needed.{Falls, placed, differs_at, programs_for, erases_for}
 use Rattle.writer.specs.Put.{holding, Made}
-use Rattle.writer.specs.Before.{KnownTo}
-use Rattle.writer.specs.declared.before.Before.{Before}
-use Rattle.writer.specs.declared.before.Before.TheVariants.{Blank, Bytes}
-use Rattle.writer.proofs.Placing.{begun, length-begun, begun_all, begun_in, begun_out, begun_none, length_part, begun_more, begun_halfway, holding-more, holding-still}
-use Rattle.writer.proofs.Needing.{Falls, falls_erases, falls_first, falls_then, pages_join, programs_none}
+use Rattle.writer.specs.declared.piece.Piece.{Piece}
+use Rattle.writer.proofs.Parts.{Part, part_more}
+use Rattle.writer.proofs.Placing.{Halfway, begun, length-begun, begun_all, begun_in, begun_out, begun_none, begun_halfway, holding-more, holding-still}
+use Rattle.writer.proofs.Needing.{page_once, programs_most, erases_most, falls_erases, falls_first, falls_then, pages_join, programs_none}
 
 -- an AND with bytes in which no bit has to rise puts them there
 pub anded_places : (at : ℕ) (bytes old : List ℕ) → ((k : ℕ) → get_or bytes k 0 < 256) → Falls old (placed at bytes old) → changed at (length bytes) (anded at bytes) old ≡ placed at bytes old
@@ -40,6 +40,14 @@ placed_same at bytes old none =
     eqb-true _ _ (not-false (eqb (get_or old a 0) (get_or new a 0)) (none_at (differs_at old new) at (length bytes) a none low high))
     ∙ begun_in at bytes (length bytes) old a low high there)
     (λ a out. refl)
+
+-- a piece of one page is one program, if some byte of it has to change
+pub page_programs : (piece : Piece 256) (m : Meaning) (b differs : Bool) → Sound m → piece.at + length piece.bytes.now ≤ length m.bytes → Falls m.bytes (placed piece.at piece.bytes.now m.bytes) → differs ≡ any_in (differs_at m.bytes (placed piece.at piece.bytes.now m.bytes)) piece.at (length piece.bytes.now) → differs ≡ b → cond b 1 0 ≡ programs_for m.bytes (placed piece.at piece.bytes.now m.bytes)
+page_programs piece m b differs sound there falls told is =
+    let sectors = sound.sectors in
+    sym
+    (page_once piece.at (length piece.bytes.now) m.bytes (placed piece.at piece.bytes.now m.bytes) piece.some piece.inside there (omega arith) falls (λ a out. sym (begun_out piece.at piece.bytes.now (length piece.bytes.now) m.bytes a out))
+    ∙ ap (λ (x : Bool). cond {A = ℕ} x 1 0) (sym told ∙ is))
 
 -- a change that was made, from its counts one by one
 pub made_from : (new : List ℕ) (before after : Meaning) (p e t : ℕ) → p ≡ programs_for before.bytes new → e ≡ erases_for before.bytes new → t ≡ p * before.program_ticks + e * before.erase_ticks → after ≡ holding new p e before → Made new before after (p, e, t)
@@ -70,10 +78,27 @@ made_ticks new before after p e t made =
     ∙ ap (λ (n : ℕ). n * before.program_ticks + erases_for before.bytes new * before.erase_ticks) (sym (made_programs new before after p e t made))
     ∙ ap (λ (n : ℕ). p * before.program_ticks + n * before.erase_ticks) (sym (made_erases new before after p e t made))
 
--- what is known of a stretch is known of its front
-pub known_less : (n m : ℕ) (before : Before) → n ≤ m → KnownTo m before → KnownTo n before
-known_less n m Blank h known = tt
-known_less n m (Bytes old) h known = omega arith
+-- none of the counts comes near 2^32
+pub record Few (p e t : ℕ) : Type 0 where
+  pub programs : p ≤ 4096
+  pub erases : e ≤ 256
+  pub ticks : t ≤ 285212672
+
+pub few : (m : Meaning) (new : List ℕ) (p e t : ℕ) → Sound m → p ≡ programs_for m.bytes new → e ≡ erases_for m.bytes new → t ≡ p * m.program_ticks + e * m.erase_ticks → Few p e t
+few m new p e t sound programs erases ticks =
+    let sectors = sound.sectors in
+    let most = sound.most in
+    let program_high = sound.program_high in
+    let erase_high = sound.erase_high in
+    let p-most = programs_most m.bytes new p programs in
+    let e-most = erases_most m.bytes new e erases in
+    let a = mul-le p m.program_ticks 4096 65536 (omega arith) (omega arith) in
+    let b = mul-le e m.erase_ticks 256 65536 (omega arith) (omega arith) in
+    record { programs = omega arith; erases = omega arith; ticks = omega arith }
+
+pub made_few : (new : List ℕ) (before after : Meaning) (p e t : ℕ) → Sound before → Made new before after (p, e, t) → Few p e t
+made_few new before after p e t sound made =
+    few before new p e t sound (made_programs new before after p e t made) (made_erases new before after p e t made) (made_ticks new before after p e t made)
 
 -- a part of a put that needs no erase needs none
 falls_over : (at : ℕ) (bytes : List ℕ) (n : ℕ) (old : List ℕ) → n ≤ length bytes → at + length bytes ≤ length old → Falls old (placed at bytes old) → Falls old (begun at bytes n old)
@@ -84,10 +109,14 @@ falls_over at bytes n old part fits falls =
     (subst (λ (k : ℕ). Falls old (begun at bytes k old)) (sym all) falls)
 
 -- a step in a put that needs no erase keeps clear of one
-pub step_falls : (at : ℕ) (bytes : List ℕ) (pos len : ℕ) (old : List ℕ) → pos + len ≤ length bytes → at + length bytes ≤ length old → Falls old (placed at bytes old) → Falls (begun at bytes pos old) (begun at bytes (pos + len) old)
-step_falls at bytes pos len old part fits falls =
-    falls_then (at + pos) old (begun at bytes pos old) (begun at bytes (pos + len) old) (begun_halfway (at + pos) at bytes pos len old (omega arith) (omega arith) (λ h. refl))
-    (falls_over at bytes (pos + len) old part fits falls)
+pub step_falls : (at : ℕ) (bytes : List ℕ) (pos : ℕ) (old : List ℕ) (piece : Piece 256) → Part 256 at bytes old pos piece → Falls old (placed at bytes old) → Falls (begun at bytes pos old) (placed piece.at piece.bytes.now (begun at bytes pos old))
+step_falls at bytes pos old piece part falls =
+    let len = length piece.bytes.now in
+    let inside = part.inside in
+    let there = part.there in
+    subst (λ (xs : List ℕ). Falls (begun at bytes pos old) xs) (sym (part_more 256 at bytes old pos piece part))
+    (falls_then (at + pos) old (begun at bytes pos old) (begun at bytes (pos + len) old) (begun_halfway (at + pos) at bytes pos len old (omega arith) (omega arith) (λ h. refl))
+    (falls_over at bytes (pos + len) old inside there falls))
 
 -- one page after another
 pub record PagesMade (at : ℕ) (bytes : List ℕ) (pos : ℕ) (m now : Meaning) (programs ticks : ℕ) : Type 0 where
@@ -104,19 +133,23 @@ pages_start at bytes m sound ready =
       time = omega arith;
     }
 
-pub pages_step : (at : ℕ) (bytes : List ℕ) (pos len : ℕ) (m mid after : Meaning) (programs ticks more spent : ℕ) → pos + len ≤ length bytes → at + length bytes ≤ length m.bytes → (0 < pos → (at + pos) % 256 ≡ 0) → Falls m.bytes (placed at bytes m.bytes) → PagesMade at bytes pos m mid programs ticks → Made (placed (at + pos) (take len (drop pos bytes)) mid.bytes) mid after (more, 0, spent) → PagesMade at bytes (pos + len) m after (programs + more) (ticks + spent)
-pages_step at bytes pos len m mid after programs ticks more spent part fits begins falls so_far made =
+pub pages_step : (at : ℕ) (bytes : List ℕ) (pos : ℕ) (m mid after : Meaning) (programs ticks more spent : ℕ) (piece : Piece 256) → Part 256 at bytes m.bytes pos piece → Falls m.bytes (placed at bytes m.bytes) → PagesMade at bytes pos m mid programs ticks → Made (placed piece.at piece.bytes.now mid.bytes) mid after (more, 0, spent) → (n : ℕ) → n ≡ pos + length piece.bytes.now → PagesMade at bytes n m after (programs + more) (ticks + spent)
+pages_step at bytes pos m mid after programs ticks more spent piece part falls so_far made n on =
     let old = m.bytes in
+    let inside = part.inside in
+    let there = part.there in
+    let place = part.place in
     let half = begun at bytes pos old in
-    let next = begun at bytes (pos + len) old in
+    let next = begun at bytes n old in
     let here : Meaning = holding half programs 0 m in
-    let made-here = subst (λ (x : Meaning). Made (placed (at + pos) (take len (drop pos bytes)) x.bytes) x after (more, 0, spent)) so_far.holds made in
-    let made-next = subst (λ (xs : List ℕ). Made xs here after (more, 0, spent)) (begun_more at bytes pos len old part) made-here in
+    let made-here = subst (λ (x : Meaning). Made (placed piece.at piece.bytes.now x.bytes) x after (more, 0, spent)) so_far.holds made in
+    let made-next = subst (λ (xs : List ℕ). Made xs here after (more, 0, spent)) (part_more 256 at bytes old pos piece part ∙ ap (λ (k : ℕ). begun at bytes k old) (sym on)) made-here in
     let count = made_programs next here after more 0 spent made-next in
     let time = made_ticks next here after more 0 spent made-next in
-    let b = (at + pos) / 256 * 256 in
-    let halfway = begun_halfway b at bytes pos len old (omega arith) (omega arith) (λ h. let w = begins h in omega arith) in
-    let falls-next = falls_over at bytes (pos + len) old part fits falls in
+    let b = piece.at / 256 * 256 in
+    let half-way = begun_halfway b at bytes pos (length piece.bytes.now) old (omega arith) (omega arith) (λ h. let w = part.begins h in omega arith) in
+    let halfway = subst (λ (k : ℕ). Halfway b old half (begun at bytes k old)) (sym on) half-way in
+    let falls-next = falls_over at bytes n old (omega arith) there falls in
     let sum = pages_join b old half next (omega arith) halfway falls-next in
     let times = add-mul programs more m.program_ticks in
     let before-time = so_far.time in
@@ -131,18 +164,26 @@ pages_done at bytes pos m after programs ticks all falls so_far =
     let done = subst (λ (n : ℕ). PagesMade at bytes n m after programs ticks) all so_far in
     made_falling (placed at bytes m.bytes) m after programs ticks falls done.count done.time done.holds
 
+pub pages_few : (at : ℕ) (bytes : List ℕ) (pos : ℕ) (m now : Meaning) (programs ticks : ℕ) → at + length bytes ≤ length m.bytes → pos ≤ length bytes → Sound m → Falls m.bytes (placed at bytes m.bytes) → PagesMade at bytes pos m now programs ticks → Few programs 0 ticks
+pages_few at bytes pos m now programs ticks there short sound falls so_far =
+    let time = so_far.time in
+    few m (begun at bytes pos m.bytes) programs 0 ticks sound so_far.count (sym (falls_erases m.bytes _ (falls_over at bytes pos m.bytes short there falls))) (omega arith)
+
 -- what is known of the bytes before tells whether a part has to change
-pub part_changes : (at : ℕ) (bytes : List ℕ) (pos n : ℕ) (old : List ℕ) (before : ℕ → ℕ) → pos + n ≤ length bytes → at + length bytes ≤ length old → ((k : ℕ) → k < length bytes → before k ≡ get_or old (at + k) 0) → any_in (λ k. not (eqb (before (pos + k)) (get_or (take n (drop pos bytes)) k 0))) 0 (length (take n (drop pos bytes))) ≡ any_in (differs_at (begun at bytes pos old) (placed (at + pos) (take n (drop pos bytes)) (begun at bytes pos old))) (at + pos) (length (take n (drop pos bytes)))
-part_changes at bytes pos n old before part fits known =
-    let these = take n (drop pos bytes) in
+pub part_changes : (at : ℕ) (bytes : List ℕ) (pos : ℕ) (old : List ℕ) (before : ℕ → ℕ) (piece : Piece 256) → Part 256 at bytes old pos piece → ((k : ℕ) → k < length bytes → before k ≡ get_or old (at + k) 0) → (i : ℕ) → i ≡ pos → any_in (λ k. not (eqb (before (i + k)) (get_or piece.bytes.now k 0))) 0 (length piece.bytes.now) ≡ any_in (differs_at (begun at bytes pos old) (placed piece.at piece.bytes.now (begun at bytes pos old))) piece.at (length piece.bytes.now)
+part_changes at bytes pos old before piece part known i same =
+    let these = piece.bytes.now in
+    let b = piece.at in
+    let inside = part.inside in
+    let there = part.there in
+    let starts = part.place in
     let half = begun at bytes pos old in
     let long = length-begun at bytes pos old in
-    let count = length_part bytes pos n part in
-    any_shifted (λ k. not (eqb (before (pos + k)) (get_or these k 0))) (differs_at half (placed (at + pos) these half)) (at + pos) (length these)
+    any_shifted (λ k. not (eqb (before (i + k)) (get_or these k 0))) (differs_at half (placed b these half)) b (length these)
     (λ k h.
-    let place : at + (pos + k) ≡ at + pos + k = omega arith in
-    let back : at + pos + k - (at + pos) ≡ k = omega arith in
+    let place : at + (i + k) ≡ b + k = omega arith in
+    let back : b + k - b ≡ k = omega arith in
     ap (λ (x : ℕ). not (eqb x (get_or these k 0)))
-    (known (pos + k) (omega arith) ∙ ap (λ (a : ℕ). get_or old a 0) place ∙ sym (begun_out at bytes pos old (at + pos + k) (inr (omega arith))))
-    ∙ ap (λ (y : ℕ). not (eqb (get_or half (at + pos + k) 0) y))
-    (sym (begun_in (at + pos) these (length these) half (at + pos + k) (omega arith) (omega arith) (omega arith) ∙ ap (λ (i : ℕ). get_or these i 0) back)))
+    (known (i + k) (omega arith) ∙ ap (λ (a : ℕ). get_or old a 0) place ∙ sym (begun_out at bytes pos old (b + k) (inr (omega arith))))
+    ∙ ap (λ (y : ℕ). not (eqb (get_or half (b + k) 0) y))
+    (sym (begun_in b these (length these) half (b + k) (omega arith) (omega arith) (omega arith) ∙ ap (λ (j : ℕ). get_or these j 0) back)))

@@ -1,7 +1,6 @@
 -- One sector: what it is to hold, and what it costs to erase and program it.
-use Rattle.std.proofs.Common.{◌≡◌, ℕ, ◌+◌, ◌-◌, ◌*◌, ◌/◌, ◌%◌, ◌<◌, ◌≤◌, Bool, true, false, cond, not, eqb, ◌⊎◌, List, ◌++◌, length, get_or, take, drop, sym, refl, ap, ◌∙◌, subst, inl, inr, arith, length-append, length-drop}
-use borrow.Rule.Slice.PartMut.{put_mid}
-use Rattle.std.proofs.lemmas.List.{get_or_append_left}
+use Rattle.std.proofs.Common.{◌≡◌, ℕ, ◌+◌, ◌-◌, ◌*◌, ◌/◌, ◌%◌, ◌<◌, ◌≤◌, Bool, true, false, cond, not, eqb, ◌⊎◌, List, ◌++◌, length, get_or, take, drop, sym, refl, ap, ◌∙◌, subst, inl, inr, arith}
+use Rattle.std.proofs.lemmas.List.{get_or_append_left, get_or-append_right}
 use Rattle.std.proofs.lemmas.Bool.{cases_lt, cases_eq, cond-true}
 use Rattle.cells.specs.Bits.{rises}
 use Rattle.cells.specs.Bytes.{changed}
@@ -11,42 +10,48 @@ use Rattle.cells.proofs.Counts.{count_one, count_same}
 use Rattle.cells.proofs.Ranges.{length-changed, get_or-changed, changed_inside, changed_outside}
 use Rattle.cells.proofs.Rising.{rises-blank, rises_same}
 use Rattle.cells.proofs.Spans.{any_same, any_shifted, any_narrowed, none_at, none_inside}
-use Rattle.cells.proofs.Stretches.{before_stretch, inside_stretch, after_stretch, length_stretch}
 use Rattle.flash.specs.Meaning.{Meaning, Sound}
-use Rattle.writer.specs.Needed.{placed, differs_at, rises_at, written_at, is_touched, must_erase, must_program, programs_for, erases_for}
+use Rattle.writer.specs.Needed.{Falls, placed, differs_at, rises_at, written_at, is_touched, must_erase, must_program, programs_for, erases_for}
+use Rattle.writer.specs.Pieces.{composed}
 use Rattle.writer.specs.Put.{holding, Made}
-use Rattle.writer.proofs.Placing.{begun_all, begun_in, begun_out, read_from, holding-more, holding-still}
-use Rattle.writer.proofs.Needing.{Falls, falls_kept, differs_none, erase_none, erases_none, program_none, programs_none, program_differing}
+use Rattle.writer.proofs.Placing.{begun_all, begun_in, begun_out, length-begun, length_part, read_from, holding-more, holding-still}
+use Rattle.writer.proofs.Needing.{falls_kept, differs_none, erase_none, erases_none, program_none, programs_none, program_differing}
 use Rattle.writer.proofs.Paging.{made_from, made_programs, made_ticks, placed_same}
 
--- a front, bytes behind it and a rest, each as it is to be, are all as they are to be
-pub composed : (want : ℕ → ℕ) (start end m l : ℕ) (work front rest bytes copied : List ℕ) → length work ≡ 4096 → m ≡ length bytes → end ≡ start + m → end + l ≡ 4096 → length front ≡ start → length rest ≡ l → copied ≡ bytes → ((k : ℕ) → k < start → get_or front k 0 ≡ want k) → ((k : ℕ) → k < length bytes → get_or bytes k 0 ≡ want (start + k)) → ((k : ℕ) → k < l → get_or rest k 0 ≡ want (end + k)) → (k : ℕ) → k < 4096 → get_or (put_mid start m (put_mid end l (front ++ drop start work) rest) copied) k 0 ≡ want k
-composed want start end m l work front rest bytes copied long is_m is-end is-l fore back same first mid last k h =
-    let base = front ++ drop start work in
-    let n : length base ≡ 4096 = length-append front (drop start work) ∙ omega (arith, length-drop start work) in
-    let inner = put_mid end l base rest in
-    let n' : length inner ≡ 4096 = length_stretch end l base rest (omega arith) back ∙ n in
-    let c : length copied ≡ m = ap length same ∙ omega arith in
+-- what stands before the bytes, the bytes, and what stands behind them are what the sector is to hold
+pub composed_holds : (at : ℕ) (bytes held work : List ℕ) → at % 4096 + length bytes ≤ 4096 → at / 4096 * 4096 + 4096 ≤ length held → work ≡ composed at bytes held → (k : ℕ) → k < 4096 → get_or work k 0 ≡ get_or (placed at bytes held) (at / 4096 * 4096 + k) 0
+composed_holds at bytes held work fits there is k h =
+    let start = at % 4096 in
+    let base = at / 4096 * 4096 in
+    let rest = 4096 - (start + length bytes) in
+    let front = take start (drop (at - start) held) in
+    let behind = take rest (drop (at + length bytes) held) in
+    let n : length front ≡ start = length_part held (at - start) start (omega arith) in
     elim (cases_lt k start) [
       | inl low ↦
-          before_stretch start m inner copied k (omega arith) c low
-          ∙ before_stretch end l base rest k (omega arith) back (omega arith)
-          ∙ get_or_append_left front (drop start work) 0 k (omega arith)
-          ∙ first k low
+          let place : at - start + k ≡ base + k = omega arith in
+          ap (λ (xs : List ℕ). get_or xs k 0) is
+          ∙ get_or_append_left front (bytes ++ behind) 0 k (omega arith)
+          ∙ read_from held front (at - start) start refl k low
+          ∙ ap (λ (a : ℕ). get_or held a 0) place
+          ∙ sym (begun_out at bytes (length bytes) held (base + k) (inl (omega arith)))
       | inr since ↦
-          elim (cases_lt k end) [
+          let i = k - start in
+          elim (cases_lt i (length bytes)) [
             | inl inside ↦
-                let there : start + (k - start) ≡ k = omega arith in
-                inside_stretch start m inner copied k (omega arith) c since (omega arith)
-                ∙ ap (λ (xs : List ℕ). get_or xs (k - start) 0) same
-                ∙ mid (k - start) (omega arith)
-                ∙ ap want there
-            | inr behind ↦
-                let there : end + (k - end) ≡ k = omega arith in
-                after_stretch start m inner copied k (omega arith) c (omega arith)
-                ∙ inside_stretch end l base rest k (omega arith) back behind (omega arith)
-                ∙ last (k - end) (omega arith)
-                ∙ ap want there
+                let place : base + k - at ≡ i = omega arith in
+                ap (λ (xs : List ℕ). get_or xs k 0) is
+                ∙ get_or-append_right front (bytes ++ behind) start k 0 n since
+                ∙ get_or_append_left bytes behind 0 i inside
+                ∙ sym (begun_in at bytes (length bytes) held (base + k) (omega arith) (omega arith) (omega arith) ∙ ap (λ (a : ℕ). get_or bytes a 0) place)
+            | inr beyond ↦
+                let place : at + length bytes + (i - length bytes) ≡ base + k = omega arith in
+                ap (λ (xs : List ℕ). get_or xs k 0) is
+                ∙ get_or-append_right front (bytes ++ behind) start k 0 n since
+                ∙ get_or-append_right bytes behind (length bytes) i 0 refl beyond
+                ∙ read_from held behind (at + length bytes) rest refl (i - length bytes) (omega arith)
+                ∙ ap (λ (a : ℕ). get_or held a 0) place
+                ∙ sym (begun_out at bytes (length bytes) held (base + k) (inr (omega arith)))
           ]
     ]
 
@@ -61,6 +66,10 @@ blanked_in sector old a low high there = get_or-changed (sector * 4096) 4096 era
 abbrev pub Elsewhere : ℕ → List ℕ → List ℕ → Type 0
 Elsewhere sector old new = (a : ℕ) → (a < sector * 4096) ⊎ (sector * 4096 + 4096 ≤ a) → get_or old a 0 ≡ get_or new a 0
 
+-- the bytes lie in the sector of their address
+pub in_sector : (at : ℕ) (bytes held : List ℕ) → at % 4096 + length bytes ≤ 4096 → Elsewhere (at / 4096) held (placed at bytes held)
+in_sector at bytes held fits a out = sym (begun_out at bytes (length bytes) held a (elim out [ inl h ↦ inl (omega arith) | inr h ↦ inr (omega arith) ]))
+
 -- an erased sector that got its new bytes
 pub rewritten : (sector : ℕ) (work old new : List ℕ) → length work ≡ 4096 → length new ≡ length old → ((k : ℕ) → k < 4096 → get_or work k 0 ≡ get_or new (sector * 4096 + k) 0) → Elsewhere sector old new → placed (sector * 4096) work (blanked sector old) ≡ new
 rewritten sector work old new long same inside elsewhere =
@@ -71,6 +80,12 @@ rewritten sector work old new long same inside elsewhere =
     (λ a out.
     let far : (a < sector * 4096) ⊎ (sector * 4096 + 4096 ≤ a) = elim out [ inl h ↦ inl h | inr h ↦ inr (omega arith) ] in
     sym (elsewhere a far) ∙ sym (changed_outside (sector * 4096) 4096 erased old a far)))
+
+-- so where it gets what a sector was composed to hold
+pub whole_placed : (at : ℕ) (bytes held : List ℕ) (b : ℕ) (these : List ℕ) → at % 4096 + length bytes ≤ 4096 → at / 4096 * 4096 + 4096 ≤ length held → b ≡ at / 4096 * 4096 → these ≡ composed at bytes held → length these ≡ 4096 → placed b these (blanked (at / 4096) held) ≡ placed at bytes held
+whole_placed at bytes held b these fits there place is long =
+    ap (λ (a : ℕ). placed a these (blanked (at / 4096) held)) place
+    ∙ rewritten (at / 4096) these held (placed at bytes held) long (length-begun at bytes (length bytes) held) (composed_holds at bytes held these fits there is) (in_sector at bytes held fits)
 
 -- from an erased sector on nothing has to rise
 pub blanked_falls : (sector : ℕ) (old new : List ℕ) → sector * 4096 + 4096 ≤ length old → Elsewhere sector old new → Falls (blanked sector old) new
@@ -128,10 +143,6 @@ rewrite_made sector new m erased-m after p t there elsewhere must is made =
     (sym (one_erase sector m.bytes new there elsewhere must))
     (omega arith)
     (made-here.holds ∙ holding-more m (blanked sector m.bytes) new 0 1 p 0 ∙ ap (λ (n : ℕ). holding new n 1 m) (omega arith))
-
--- the bytes lie in the sector of their address
-pub in_sector : (at : ℕ) (bytes held : List ℕ) → at % 4096 + length bytes ≤ 4096 → Elsewhere (at / 4096) held (placed at bytes held)
-in_sector at bytes held fits a out = sym (begun_out at bytes (length bytes) held a (elim out [ inl h ↦ inl (omega arith) | inr h ↦ inr (omega arith) ]))
 
 -- what was read against the bytes to be put tells what the sector needs, by any test of an old and a new byte that
 -- equal bytes do not pass

@@ -1,33 +1,23 @@
 -- From sector to sector: what a put needs in each, whichever part of it stands already.
-use Rattle.std.proofs.Common.{◌≡◌, ℕ, ◌+◌, ◌-◌, ◌*◌, ◌/◌, ◌%◌, ◌<◌, ◌≤◌, min, false, ◌⊎◌, List, length, get_or, take, drop, sym, refl, ap, ◌∙◌, subst, inl, inr, add-mul, arith}
+use Rattle.std.proofs.Common.{◌≡◌, ℕ, ◌+◌, ◌*◌, ◌/◌, ◌<◌, ◌≤◌, false, ◌⊎◌, List, length, get_or, sym, refl, ap, ◌∙◌, subst, inl, inr, add-mul, arith}
 use Rattle.std.proofs.lemmas.Bool.{cases_lt, cases_eq, and_right}
 use Rattle.cells.proofs.Spans.{any_none}
 use Rattle.flash.specs.Meaning.{Meaning, Sound}
 use Rattle.writer.specs.Needed.{placed, differs_at, is_touched, programs_for, erases_for}
+use Rattle.writer.specs.declared.piece.Piece.{Piece}
 use Rattle.writer.specs.Put.{holding, Made, is_locked}
-use Rattle.writer.proofs.Placing.{begun, length-begun, length_part, begun_in, begun_out, begun_none, begun_more, begun_halfway, holding-more, holding-still}
+use Rattle.writer.proofs.Parts.{Part, part_more}
+use Rattle.writer.proofs.Placing.{Halfway, begun, length-begun, begun_in, begun_out, begun_none, begun_halfway, holding-more, holding-still}
 use Rattle.writer.proofs.Needing.{Agree, differs_none, differs_same, programs_none, erases_none, programs_join, erases_join}
-use Rattle.writer.proofs.Paging.{made_from, made_programs, made_erases, made_ticks}
-
--- the part of a put that falls into one sector: len bytes, of which pos come before
-pub record Piece (at : ℕ) (bytes held : List ℕ) (pos len : ℕ) : Type 0 where
-  pub some : 0 < len
-  pub inside : pos + len ≤ length bytes
-  pub there : at + length bytes ≤ length held
-  pub fits : (at + pos) % 4096 + len ≤ 4096
-  pub begins : 0 < pos → (at + pos) % 4096 ≡ 0
-  pub ends : pos + len < length bytes → (at + (pos + len)) % 4096 ≡ 0
-
--- the next piece: as many bytes as are left, up to the end of the sector
-pub next_piece : (at : ℕ) (bytes held : List ℕ) (pos len n : ℕ) → pos < length bytes → at + length bytes ≤ length held → (0 < pos → (at + pos) % 4096 ≡ 0) → len ≡ min (4096 - (at + pos) % 4096) (length bytes - pos) → n ≡ len → Piece at bytes held pos n
-next_piece at bytes held pos len n more there begins is same =
-    record { some = omega arith; inside = omega arith; there = there; fits = omega arith; begins = begins; ends = λ h. omega arith }
+use Rattle.writer.proofs.Paging.{Few, few, made_programs, made_erases, made_ticks}
 
 -- in its sector the piece is all that is put
-pub piece_new : (at : ℕ) (bytes held : List ℕ) (pos len : ℕ) → Piece at bytes held pos len → Agree ((at + pos) / 4096 * 4096) 4096 (begun at bytes (pos + len) held) (placed at bytes held)
-piece_new at bytes held pos len piece a low high =
-    let inside = piece.inside in
-    let there = piece.there in
+pub piece_new : (at : ℕ) (bytes held : List ℕ) (pos : ℕ) (piece : Piece 4096) → Part 4096 at bytes held pos piece → Agree (piece.at / 4096 * 4096) 4096 (begun at bytes (pos + length piece.bytes.now) held) (placed at bytes held)
+piece_new at bytes held pos piece part a low high =
+    let len = length piece.bytes.now in
+    let inside = part.inside in
+    let there = part.there in
+    let place = part.place in
     elim (cases_lt a at) [
       | inl before ↦ begun_out at bytes (pos + len) held a (inl before) ∙ sym (begun_out at bytes (length bytes) held a (inl before))
       | inr since ↦
@@ -35,17 +25,18 @@ piece_new at bytes held pos len piece a low high =
             | inl within ↦ begun_in at bytes (pos + len) held a since within (omega arith) ∙ sym (begun_in at bytes (length bytes) held a since (omega arith) (omega arith))
             | inr behind ↦
                 elim (cases_lt (pos + len) (length bytes)) [
-                  | inl more ↦ let e = piece.ends more in let f = piece.fits in let g = piece.some in absurd (omega arith)
+                  | inl more ↦ let e = part.ends more in let f = piece.inside in let g = piece.some in absurd (omega arith)
                   | inr all ↦ begun_out at bytes (pos + len) held a (inr behind) ∙ sym (begun_out at bytes (length bytes) held a (inr (omega arith)))
                 ]
           ]
     ]
 
 -- and nothing of it stood there before
-pub piece_old : (at : ℕ) (bytes held : List ℕ) (pos len : ℕ) → Piece at bytes held pos len → Agree ((at + pos) / 4096 * 4096) 4096 (begun at bytes pos held) held
-piece_old at bytes held pos len piece a low high =
+pub piece_old : (at : ℕ) (bytes held : List ℕ) (pos : ℕ) (piece : Piece 4096) → Part 4096 at bytes held pos piece → Agree (piece.at / 4096 * 4096) 4096 (begun at bytes pos held) held
+piece_old at bytes held pos piece part a low high =
+    let place = part.place in
     elim (cases_lt 0 pos) [
-      | inl some ↦ let e = piece.begins some in begun_out at bytes pos held a (inr (omega arith))
+      | inl some ↦ let e = part.begins some in begun_out at bytes pos held a (inr (omega arith))
       | inr none ↦ begun_out at bytes pos held a (elim (cases_lt a at) [ inl before ↦ inl before | inr since ↦ inr (omega arith) ])
     ]
 
@@ -56,60 +47,63 @@ untouched at bytes held sector out =
     (λ a low high. differs_none _ _ (sym (begun_out at bytes (length bytes) held a (elim out [ inl h ↦ inl (omega arith) | inr h ↦ inr (omega arith) ]))))
 
 -- whether the sector of a piece is touched goes by the piece
-pub piece_touches : (at : ℕ) (bytes held : List ℕ) (pos len : ℕ) → Piece at bytes held pos len → is_touched (begun at bytes pos held) (begun at bytes (pos + len) held) ((at + pos) / 4096) ≡ is_touched held (placed at bytes held) ((at + pos) / 4096)
-piece_touches at bytes held pos len piece =
-    differs_same (begun at bytes pos held) (begun at bytes (pos + len) held) held (placed at bytes held) ((at + pos) / 4096 * 4096) 4096 (piece_old at bytes held pos len piece) (piece_new at bytes held pos len piece)
+pub piece_touches : (at : ℕ) (bytes held : List ℕ) (pos : ℕ) (piece : Piece 4096) → Part 4096 at bytes held pos piece → is_touched (begun at bytes pos held) (begun at bytes (pos + length piece.bytes.now) held) (piece.at / 4096) ≡ is_touched held (placed at bytes held) (piece.at / 4096)
+piece_touches at bytes held pos piece part =
+    differs_same (begun at bytes pos held) (begun at bytes (pos + length piece.bytes.now) held) held (placed at bytes held) (piece.at / 4096 * 4096) 4096 (piece_old at bytes held pos piece part) (piece_new at bytes held pos piece part)
 
 -- the same for the piece alone
-pub piece_alone : (at : ℕ) (bytes held : List ℕ) (pos len : ℕ) → Piece at bytes held pos len → is_touched held (placed (at + pos) (take len (drop pos bytes)) held) ((at + pos) / 4096) ≡ is_touched held (placed at bytes held) ((at + pos) / 4096)
-piece_alone at bytes held pos len piece =
-    let part = take len (drop pos bytes) in
-    let inside = piece.inside in
-    let there = piece.there in
-    let long = length_part bytes pos len inside in
+pub piece_alone : (at : ℕ) (bytes held : List ℕ) (pos : ℕ) (piece : Piece 4096) → Part 4096 at bytes held pos piece → is_touched held (placed piece.at piece.bytes.now held) (piece.at / 4096) ≡ is_touched held (placed at bytes held) (piece.at / 4096)
+piece_alone at bytes held pos piece part =
+    let these = piece.bytes.now in
+    let b = piece.at in
+    let inside = part.inside in
+    let there = part.there in
+    let place = part.place in
     let half = begun at bytes pos held in
     let whole = length-begun at bytes pos held in
-    differs_same held (placed (at + pos) part held) held (placed at bytes held) ((at + pos) / 4096 * 4096) 4096 (λ a low high. refl)
+    differs_same held (placed b these held) held (placed at bytes held) (b / 4096 * 4096) 4096 (λ a low high. refl)
     (λ a low high.
-    (elim (cases_lt a (at + pos)) [
+    (elim (cases_lt a b) [
       | inl before ↦
-          begun_out (at + pos) part (length part) held a (inl before)
-          ∙ sym (piece_old at bytes held pos len piece a low high)
-          ∙ (begun_halfway (at + pos) at bytes pos len held (omega arith) (omega arith) (λ h. refl)).below a before
+          begun_out b these (length these) held a (inl before)
+          ∙ sym (piece_old at bytes held pos piece part a low high)
+          ∙ (begun_halfway b at bytes pos (length these) held (omega arith) (omega arith) (λ h. place)).below a before
       | inr since ↦
-          (elim (cases_lt a (at + pos + length part)) [
+          (elim (cases_lt a (b + length these)) [
             | inl within ↦
-                begun_in (at + pos) part (length part) held a since within (omega arith)
-                ∙ sym (begun_in (at + pos) part (length part) half a since within (omega arith))
+                begun_in b these (length these) held a since within (omega arith)
+                ∙ sym (begun_in b these (length these) half a since within (omega arith))
             | inr behind ↦
-                begun_out (at + pos) part (length part) held a (inr behind)
-                ∙ sym (begun_out at bytes pos held a (inr since))
-                ∙ sym (begun_out (at + pos) part (length part) half a (inr behind))
+                begun_out b these (length these) held a (inr behind)
+                ∙ sym (begun_out at bytes pos held a (inr (omega arith)))
+                ∙ sym (begun_out b these (length these) half a (inr behind))
           ])
-          ∙ ap (λ (xs : List ℕ). get_or xs a 0) (begun_more at bytes pos len held inside)
+          ∙ ap (λ (xs : List ℕ). get_or xs a 0) (part_more 4096 at bytes held pos piece part)
     ])
-    ∙ piece_new at bytes held pos len piece a low high)
+    ∙ piece_new at bytes held pos piece part a low high)
 
 -- the sectors before an address are not locked
 abbrev pub FreeTo : ℕ → List ℕ → ℕ → Meaning → Type 0
 FreeTo at bytes pos m = 0 < pos → (sector : ℕ) → sector * 4096 < at + pos → is_locked m (placed at bytes m.bytes) sector ≡ false
 
 -- no more so up to the end of a piece whose sector is not
-pub free_more : (at : ℕ) (bytes : List ℕ) (pos len : ℕ) (m : Meaning) → Piece at bytes m.bytes pos len → FreeTo at bytes pos m → is_locked m (placed at bytes m.bytes) ((at + pos) / 4096) ≡ false → (n : ℕ) → n ≡ pos + len → FreeTo at bytes n m
-free_more at bytes pos len m piece free here n is some sector low =
-    let fits = piece.fits in
-    elim (cases_eq sector ((at + pos) / 4096)) [
+pub free_more : (at : ℕ) (bytes : List ℕ) (pos : ℕ) (m : Meaning) (piece : Piece 4096) → Part 4096 at bytes m.bytes pos piece → FreeTo at bytes pos m → is_locked m (placed at bytes m.bytes) (piece.at / 4096) ≡ false → (n : ℕ) → n ≡ pos + length piece.bytes.now → FreeTo at bytes n m
+free_more at bytes pos m piece part free here n is some sector low =
+    let place = part.place in
+    let fits = piece.inside in
+    elim (cases_eq sector (piece.at / 4096)) [
       | inl same ↦ ap (is_locked m (placed at bytes m.bytes)) same ∙ here
       | inr other ↦
           elim (cases_lt 0 pos) [
-            | inl begun ↦ free begun sector (let b = piece.begins begun in omega arith)
+            | inl begun ↦ free begun sector (let b = part.begins begun in omega arith)
             | inr none ↦ and_right _ _ (untouched at bytes m.bytes sector (inl (omega arith)))
           ]
     ]
 
 -- none of the sectors before that of a piece
-pub free_before : (at : ℕ) (bytes : List ℕ) (pos : ℕ) (m : Meaning) → FreeTo at bytes pos m → (sector : ℕ) → sector < (at + pos) / 4096 → is_locked m (placed at bytes m.bytes) sector ≡ false
-free_before at bytes pos m free sector low =
+pub free_before : (at : ℕ) (bytes : List ℕ) (pos : ℕ) (m : Meaning) (piece : Piece 4096) → Part 4096 at bytes m.bytes pos piece → FreeTo at bytes pos m → (sector : ℕ) → sector < piece.at / 4096 → is_locked m (placed at bytes m.bytes) sector ≡ false
+free_before at bytes pos m piece part free sector low =
+    let place = part.place in
     elim (cases_lt 0 pos) [
       | inl begun ↦ free begun sector (omega arith)
       | inr none ↦ and_right _ _ (untouched at bytes m.bytes sector (inl (omega arith)))
@@ -149,19 +143,21 @@ sectors_start at bytes m sound ready =
       time = omega arith;
     }
 
-pub sectors_step : (at : ℕ) (bytes : List ℕ) (pos len : ℕ) (m mid after : Meaning) (programs erases ticks p e t : ℕ) → Piece at bytes m.bytes pos len → SectorsMade at bytes pos m mid programs erases ticks → Made (placed (at + pos) (take len (drop pos bytes)) mid.bytes) mid after (p, e, t) → SectorsMade at bytes (pos + len) m after (programs + p) (erases + e) (ticks + t)
-sectors_step at bytes pos len m mid after programs erases ticks p e t piece so_far made =
+pub sectors_step : (at : ℕ) (bytes : List ℕ) (pos : ℕ) (m mid after : Meaning) (programs erases ticks p e t : ℕ) (piece : Piece 4096) → Part 4096 at bytes m.bytes pos piece → SectorsMade at bytes pos m mid programs erases ticks → Made (placed piece.at piece.bytes.now mid.bytes) mid after (p, e, t) → (n : ℕ) → n ≡ pos + length piece.bytes.now → SectorsMade at bytes n m after (programs + p) (erases + e) (ticks + t)
+sectors_step at bytes pos m mid after programs erases ticks p e t piece part so_far made n on =
     let old = m.bytes in
     let half = begun at bytes pos old in
-    let next = begun at bytes (pos + len) old in
-    let inside = piece.inside in
-    let there = piece.there in
+    let next = begun at bytes n old in
+    let inside = part.inside in
+    let there = part.there in
+    let place = part.place in
     let here : Meaning = holding half programs erases m in
-    let made-here = subst (λ (x : Meaning). Made (placed (at + pos) (take len (drop pos bytes)) x.bytes) x after (p, e, t)) so_far.holds made in
-    let made-next = subst (λ (xs : List ℕ). Made xs here after (p, e, t)) (begun_more at bytes pos len old inside) made-here in
+    let made-here = subst (λ (x : Meaning). Made (placed piece.at piece.bytes.now x.bytes) x after (p, e, t)) so_far.holds made in
+    let made-next = subst (λ (xs : List ℕ). Made xs here after (p, e, t)) (part_more 4096 at bytes old pos piece part ∙ ap (λ (k : ℕ). begun at bytes k old) (sym on)) made-here in
     let time = made_ticks next here after p e t made-next in
-    let b = (at + pos) / 4096 * 4096 in
-    let halfway = begun_halfway b at bytes pos len old (omega arith) (omega arith) (λ h. let w = piece.begins h in omega arith) in
+    let b = piece.at / 4096 * 4096 in
+    let half-way = begun_halfway b at bytes pos (length piece.bytes.now) old (omega arith) (omega arith) (λ h. let w = part.begins h in omega arith) in
+    let halfway = subst (λ (k : ℕ). Halfway b old half (begun at bytes k old)) (sym on) half-way in
     let before-time = so_far.time in
     let times = add-mul programs p m.program_ticks in
     let times' = add-mul erases e m.erase_ticks in
@@ -172,7 +168,5 @@ sectors_step at bytes pos len m mid after programs erases ticks p e t piece so_f
       time = omega arith;
     }
 
-pub sectors_done : (at : ℕ) (bytes : List ℕ) (pos : ℕ) (m after : Meaning) (programs erases ticks : ℕ) → pos ≡ length bytes → SectorsMade at bytes pos m after programs erases ticks → Made (placed at bytes m.bytes) m after (programs, erases, ticks)
-sectors_done at bytes pos m after programs erases ticks all so_far =
-    let done = subst (λ (n : ℕ). SectorsMade at bytes n m after programs erases ticks) all so_far in
-    made_from (placed at bytes m.bytes) m after programs erases ticks done.programmed done.erased done.time done.holds
+pub sectors_few : (at : ℕ) (bytes : List ℕ) (pos : ℕ) (m now : Meaning) (programs erases ticks : ℕ) → Sound m → SectorsMade at bytes pos m now programs erases ticks → Few programs erases ticks
+sectors_few at bytes pos m now programs erases ticks sound so_far = few m (begun at bytes pos m.bytes) programs erases ticks sound so_far.programmed so_far.erased so_far.time

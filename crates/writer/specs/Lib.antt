@@ -3,3 +3,4 @@ pub mod Needed
 pub mod Operations
 pub mod Put
 pub mod Refusals
+pub mod Pieces

@@ -1,5 +1,5 @@
 -- What has to be done so that a flash that holds the bytes `old` holds the bytes `new`, and how often.
-use Rattle.std.specs.Prelude.{ℕ, ◌*◌, ◌/◌, Bool, cond, not, List, length, ◌==◌, slice_index}
+use Rattle.std.specs.Prelude.{◌≡◌, ℕ, ◌*◌, ◌/◌, Bool, false, cond, not, List, length, ◌==◌, slice_index}
 use Rattle.cells.specs.Bits.{rises}
 use Rattle.cells.specs.Bytes.{changed}
 use Rattle.cells.specs.Changes.{replaced}
@@ -16,6 +16,10 @@ differs_at old new a = not (slice_index old a == slice_index new a)
 -- some bit of the byte at a has to go from 0 to 1
 abbrev pub rises_at : List ℕ → List ℕ → ℕ → Bool
 rises_at old new a = rises (slice_index old a) (slice_index new a)
+
+-- no bit has to go from 0 to 1
+abbrev pub Falls : List ℕ → List ℕ → Type 0
+Falls old new = (a : ℕ) → rises_at old new a ≡ false
 
 -- the byte at a is not FF
 abbrev pub written_at : List ℕ → ℕ → Bool

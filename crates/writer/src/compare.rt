@@ -1,5 +1,6 @@
 // What stands against what is wanted, byte by byte.
-ghost use Rattle.std.specs.Prelude.{◌≡◌, not, length, ◌==◌, bit_and};
+ghost use Rattle.std.specs.Prelude.{◌≡◌, not, length, ◌==◌};
+ghost use Rattle.cells.specs.Bits.{rises};
 ghost use Rattle.cells.specs.Tests.{any_in};
 ghost use Rattle.writer.specs.Needed.{differs_at, rises_at, written_at};
 
@@ -15,12 +16,9 @@ pub(crate) fn any_differs(old: &[u8], new: &[u8]) -> bool
     requires { length old.now ≡ length new.now }
     ensures { result ≡ any_in (differs_at old.now new.now) 0 (length new.now) }
 {
-    for i in 0..new.len() {
-        if must_change(old[i], new[i]) {
-            return true;
-        }
-    }
-    false
+    old.iter()
+        .zip(new)
+        .any(|(old, new)| must_change(*old, *new))
 }
 
 // Whether a byte that is to stand in an erased place has to be programmed: it is not FF.
@@ -34,17 +32,13 @@ fn is_written(new: u8) -> bool
 pub(crate) fn any_written(new: &[u8]) -> bool
     ensures { result ≡ any_in (written_at new.now) 0 (length new.now) }
 {
-    for i in 0..new.len() {
-        if is_written(new[i]) {
-            return true;
-        }
-    }
-    false
+    new.iter().any(|new| is_written(*new))
 }
 
-// Whether an AND with the new byte does not give the new byte: then some bit has to go from 0 to 1.
+// Whether some bit has to go from 0 to 1: an AND with the new byte does not give the new byte.
+#[tactic(auto, using(cells::proofs::Rising::rises_is))]
 fn must_rise(old: u8, new: u8) -> bool
-    ensures { result ≡ not (bit_and old new == new) }
+    ensures { result ≡ rises old new }
 {
     old & new != new
 }
@@ -54,10 +48,5 @@ pub(crate) fn any_rises(old: &[u8], new: &[u8]) -> bool
     requires { length old.now ≡ length new.now }
     ensures { result ≡ any_in (rises_at old.now new.now) 0 (length new.now) }
 {
-    for i in 0..new.len() {
-        if must_rise(old[i], new[i]) {
-            return true;
-        }
-    }
-    false
+    old.iter().zip(new).any(|(old, new)| must_rise(*old, *new))
 }

@@ -1,10 +1,10 @@
 //! Puts bytes into any flash, with the fewest erases.
 #![tactic(auto)]
 
-mod before;
 mod compare;
 mod locked;
 mod pages;
+mod piece;
 mod refusal;
 mod sector;
 mod steps;

@@ -1,46 +1,43 @@
 // Puts bytes that lie in one sector.
-ghost use Rattle.std.specs.Prelude.{◌≡◌, ℕ, ◌+◌, ◌-◌, ◌*◌, ◌/◌, ◌%◌, ◌<◌, ◌≤◌, true, false, length, slice_index, slice_index_or};
+ghost use Rattle.std.specs.Prelude.{◌≡◌, ◌/◌, true, false, length, slice_index_or};
 ghost use Rattle.writer.specs.Needed.{placed, must_erase};
+ghost use Rattle.writer.specs.Pieces.{Fits, composed};
 ghost use Rattle.writer.specs.Put.{Made, is_locked};
 
-use crate::before::{Before, blank};
 use crate::compare::any_rises;
 use crate::pages::program_pages;
-use crate::steps::{erase, is_marked, read_into, sector_of};
+use crate::piece::Piece;
+use crate::steps::{erase, is_marked, read_into};
 use flash::NorFlash;
 
 // Makes the work buffer what the sector is to hold: the bytes at their place, and around them what stands.
-fn compose<F: NorFlash>(flash: &F, at: usize, bytes: &[u8], work: &mut [u8])
-    requires long { length work.old ≡ 4096 }
-    requires ready { (F.NorFlash.meaning flash.now).left ≡ 0 }
-    requires some { 1 ≤ length bytes.now }
-    requires sector { at % 4096 + length bytes.now ≤ 4096 }
-    requires within { at + length bytes.now ≤ length (F.NorFlash.meaning flash.now).bytes }
-    ensures { (k : ℕ) → k < 4096 → slice_index work.new k ≡ slice_index (placed at bytes.now (F.NorFlash.meaning flash.now).bytes) (at / 4096 * 4096 + k) }
+fn compose<F: NorFlash>(flash: &F, piece: Piece<'_, 4096>, work: &mut [u8; 4096])
+    requires { Fits piece.at (length piece.bytes.now) (F.NorFlash.meaning flash.now) }
+    ensures { work.new ≡ composed piece.entry.at piece.entry.bytes.now (F.NorFlash.meaning flash.now).bytes }
 {
-    let start = at % 4096;
-    let end = start + bytes.len();
-    let base = at - start;
-    read_into(flash, base, &mut work[..start]);
-    read_into(flash, base + end, &mut work[end..]);
-    work[start..end].copy_from_slice(bytes);
+    let start = piece.at % 4096;
+    let (front, rest) = work.split_at_mut(start);
+    let (middle, behind) = rest.split_at_mut(piece.bytes.len());
+    read_into(flash, piece.at - start, front);
+    middle.copy_from_slice(piece.bytes);
+    read_into(flash, piece.at + piece.bytes.len(), behind);
 }
 
 // Erases the sector and programs what it is to hold. Answers the programs, the erases and the ticks.
-fn rewrite<F: NorFlash>(flash: &mut F, at: usize, bytes: &[u8], work: &mut [u8]) -> (u32, u32, u32)
-    requires long { length work.old ≡ 4096 }
-    requires ready { (F.NorFlash.meaning flash.old).left ≡ 0 }
-    requires some { 1 ≤ length bytes.now }
-    requires sector { at % 4096 + length bytes.now ≤ 4096 }
-    requires within { at + length bytes.now ≤ length (F.NorFlash.meaning flash.old).bytes }
-    requires free { slice_index_or (F.NorFlash.meaning flash.old).marks (at / 4096) false ≡ false }
-    requires rises { must_erase (F.NorFlash.meaning flash.old).bytes (placed at bytes.now (F.NorFlash.meaning flash.old).bytes) (at / 4096) ≡ true }
-    ensures { Made (placed at bytes.now (F.NorFlash.meaning flash.old).bytes) (F.NorFlash.meaning flash.old) (F.NorFlash.meaning flash.new) result }
+fn rewrite<F: NorFlash>(
+    flash: &mut F,
+    piece: Piece<'_, 4096>,
+    work: &mut [u8; 4096],
+) -> (u32, u32, u32)
+    requires fits { Fits piece.at (length piece.bytes.now) (F.NorFlash.meaning flash.old) }
+    requires free { slice_index_or (F.NorFlash.meaning flash.old).marks (piece.at / 4096) false ≡ false }
+    requires rises { must_erase (F.NorFlash.meaning flash.old).bytes (placed piece.at piece.bytes.now (F.NorFlash.meaning flash.old).bytes) (piece.at / 4096) ≡ true }
+    ensures { Made (placed piece.entry.at piece.entry.bytes.now (F.NorFlash.meaning flash.old).bytes) (F.NorFlash.meaning flash.old) (F.NorFlash.meaning flash.new) result }
 {
-    let sector = sector_of(at);
-    compose(flash, at, bytes, work);
+    let sector = piece.sector();
+    compose(flash, piece, work);
     let (erases, spent) = erase(flash, sector);
-    let (programs, ticks) = program_pages(flash, sector * 4096, work, blank());
+    let (programs, ticks) = program_pages(flash, Piece::whole(sector, work), None);
     (programs, erases, spent + ticks)
 }
 
@@ -49,27 +46,21 @@ fn rewrite<F: NorFlash>(flash: &mut F, at: usize, bytes: &[u8], work: &mut [u8])
 // the ticks.
 pub(crate) fn put_in_sector<F: NorFlash>(
     flash: &mut F,
-    at: usize,
-    bytes: &[u8],
-    work: &mut [u8],
+    piece: Piece<'_, 4096>,
+    work: &mut [u8; 4096],
 ) -> (u32, u32, u32)
-    requires long { length work.old ≡ 4096 }
-    requires ready { (F.NorFlash.meaning flash.old).left ≡ 0 }
-    requires some { 1 ≤ length bytes.now }
-    requires sector { at % 4096 + length bytes.now ≤ 4096 }
-    requires within { at + length bytes.now ≤ length (F.NorFlash.meaning flash.old).bytes }
-    requires free { is_locked (F.NorFlash.meaning flash.old) (placed at bytes.now (F.NorFlash.meaning flash.old).bytes) (at / 4096) ≡ false }
-    ensures { Made (placed at bytes.now (F.NorFlash.meaning flash.old).bytes) (F.NorFlash.meaning flash.old) (F.NorFlash.meaning flash.new) result }
+    requires fits { Fits piece.at (length piece.bytes.now) (F.NorFlash.meaning flash.old) }
+    requires free { is_locked (F.NorFlash.meaning flash.old) (placed piece.at piece.bytes.now (F.NorFlash.meaning flash.old).bytes) (piece.at / 4096) ≡ false }
+    ensures { Made (placed piece.entry.at piece.entry.bytes.now (F.NorFlash.meaning flash.old).bytes) (F.NorFlash.meaning flash.old) (F.NorFlash.meaning flash.new) result }
 {
-    if is_marked(flash, sector_of(at)) {
+    if is_marked(flash, piece.sector()) {
         return (0, 0, 0);
     }
-    let start = at % 4096;
-    let old = &mut work[start..start + bytes.len()];
-    read_into(flash, at, old);
-    if !any_rises(old, bytes) {
-        let (programs, ticks) = program_pages(flash, at, bytes, Before::Bytes(old));
+    let old = &mut work[..piece.bytes.len()];
+    read_into(flash, piece.at, old);
+    if !any_rises(old, piece.bytes) {
+        let (programs, ticks) = program_pages(flash, piece, Some(old));
         return (programs, 0, ticks);
     }
-    rewrite(flash, at, bytes, work)
+    rewrite(flash, piece, work)
 }

@@ -1,31 +1,17 @@
 // Single steps on a flash that is ready.
-ghost use Rattle.std.specs.Prelude.{◌≡◌, ℕ, ◌+◌, ◌-◌, ◌*◌, ◌/◌, ◌%◌, ◌<◌, ◌≤◌, min, false, length, take, drop, Ok, slice_index_or};
+ghost use Rattle.std.specs.Prelude.{◌≡◌, ◌*◌, ◌<◌, false, length, take, drop, Ok, slice_index_or};
 ghost use Rattle.cells.specs.Bytes.{changed};
-ghost use Rattle.cells.specs.Changes.{anded, erased};
+ghost use Rattle.cells.specs.Changes.{erased};
 ghost use Rattle.flash.specs.Answers.{program_answer, erase_answer, fresh};
+ghost use Rattle.writer.specs.Needed.{Falls, placed};
+ghost use Rattle.writer.specs.Pieces.{Fits};
 ghost use Rattle.writer.specs.Put.{holding};
 
 use flash::{NorFlash, ReadNorFlash, erase_and_wait, program_and_wait};
 
-// The sector in which an address lies.
-pub(crate) fn sector_of(at: usize) -> usize
-    ensures { result ≡ at / 4096 }
-{
-    at / 4096
-}
-
-// How many bytes of `left` fit between an address and the end of its unit, a page or a sector.
-pub(crate) fn stretch(at: usize, unit: usize, left: usize) -> usize
-    requires { 0 < unit }
-    ensures { result ≡ min (unit - at % unit) left }
-{
-    (unit - at % unit).min(left)
-}
-
 // Reads from an address on.
 pub(crate) fn read_into<F: NorFlash>(flash: &F, at: usize, out: &mut [u8])
-    requires ready { (F.NorFlash.meaning flash.now).left ≡ 0 }
-    requires within { at + length out.old ≤ length (F.NorFlash.meaning flash.now).bytes }
+    requires { Fits at (length out.old) (F.NorFlash.meaning flash.now) }
     ensures { out.new ≡ take (length out.old) (drop at (F.NorFlash.meaning flash.now).bytes) }
 {
     let _ = flash.read(at, out);
@@ -36,22 +22,17 @@ pub(crate) fn is_marked<F: NorFlash>(flash: &F, sector: usize) -> bool
     requires { sector < length (F.NorFlash.meaning flash.now).marks }
     ensures { result ≡ slice_index_or (F.NorFlash.meaning flash.now).marks sector false }
 {
-    match flash.is_protected(sector) {
-        Ok(mark) => mark,
-        Err(_) => unreachable(),
-    }
+    flash.is_protected(sector).unwrap()
 }
 
-// Programs bytes into one page, and waits. Answers the programs and the ticks.
+// Programs bytes into one page, where no bit has to go from 0 to 1, and waits. Answers the programs and the ticks.
 pub(crate) fn program<F: NorFlash>(flash: &mut F, at: usize, bytes: &[u8]) -> (u32, u32)
-    requires { program_answer at (length bytes.now) (F.NorFlash.meaning flash.old) ≡ Ok fresh }
+    requires starts { program_answer at (length bytes.now) (F.NorFlash.meaning flash.old) ≡ Ok fresh }
+    requires falls { Falls (F.NorFlash.meaning flash.old).bytes (placed at bytes.now (F.NorFlash.meaning flash.old).bytes) }
     ensures cost { result ≡ (1, (F.NorFlash.meaning flash.old).program_ticks) }
-    ensures after { F.NorFlash.meaning flash.new ≡ holding (changed at (length bytes.now) (anded at bytes.now) (F.NorFlash.meaning flash.old).bytes) 1 0 (F.NorFlash.meaning flash.old) }
+    ensures after { F.NorFlash.meaning flash.new ≡ holding (placed at bytes.now (F.NorFlash.meaning flash.old).bytes) 1 0 (F.NorFlash.meaning flash.old) }
 {
-    match program_and_wait(flash, at, bytes) {
-        Ok(ticks) => (1, ticks),
-        Err(_) => unreachable(),
-    }
+    (1, program_and_wait(flash, at, bytes).unwrap())
 }
 
 // Erases a sector, and waits. Answers the erases and the ticks.
@@ -60,8 +41,5 @@ pub(crate) fn erase<F: NorFlash>(flash: &mut F, sector: usize) -> (u32, u32)
     ensures cost { result ≡ (1, (F.NorFlash.meaning flash.old).erase_ticks) }
     ensures after { F.NorFlash.meaning flash.new ≡ holding (changed (sector * 4096) 4096 erased (F.NorFlash.meaning flash.old).bytes) 0 1 (F.NorFlash.meaning flash.old) }
 {
-    match erase_and_wait(flash, sector) {
-        Ok(spent) => (1, spent),
-        Err(_) => unreachable(),
-    }
+    (1, erase_and_wait(flash, sector).unwrap())
 }

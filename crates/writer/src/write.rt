@@ -1,13 +1,14 @@
 // Puts bytes into any flash.
-ghost use Rattle.std.specs.Prelude.{◌≡◌, ℕ, ◌+◌, ◌<◌, ◌≤◌, false, length, replicate, nat_le};
+ghost use Rattle.std.specs.Prelude.{◌≡◌, ℕ, ◌+◌, ◌<◌, false, length, replicate, nat_le};
 ghost use Rattle.writer.specs.Needed.{placed};
 ghost use Rattle.writer.specs.Operations.{FewestErases};
+ghost use Rattle.writer.specs.Pieces.{Fits};
 ghost use Rattle.writer.specs.Put.{Made, is_locked, put_answer, after_put};
 
 use crate::locked::first_locked;
+use crate::piece::Pieces;
 use crate::refusal::PutRefusal;
 use crate::sector::put_in_sector;
-use crate::steps::stretch;
 use crate::work::WorkBuffer;
 use flash::{NorFlash, ReadNorFlash};
 
@@ -17,25 +18,20 @@ fn write_sectors<F: NorFlash>(
     flash: &mut F,
     at: usize,
     bytes: &[u8],
-    work: &mut [u8],
+    work: &mut [u8; 4096],
 ) -> (u32, u32, u32)
-    requires long { length work.old ≡ 4096 }
-    requires ready { (F.NorFlash.meaning flash.old).left ≡ 0 }
-    requires within { at + length bytes.now ≤ length (F.NorFlash.meaning flash.old).bytes }
+    requires fits { Fits at (length bytes.now) (F.NorFlash.meaning flash.old) }
     requires free { (sector : ℕ) → sector < length (F.NorFlash.meaning flash.old).marks → is_locked (F.NorFlash.meaning flash.old) (placed at bytes.now (F.NorFlash.meaning flash.old).bytes) sector ≡ false }
     ensures { Made (placed at bytes.now (F.NorFlash.meaning flash.old).bytes) (F.NorFlash.meaning flash.old) (F.NorFlash.meaning flash.new) result }
 {
     let mut programs = 0;
     let mut erases = 0;
     let mut ticks = 0;
-    let mut pos = 0;
-    while pos < bytes.len() {
-        let len = stretch(at + pos, 4096, bytes.len() - pos);
-        let (p, e, t) = put_in_sector(flash, at + pos, &bytes[pos..pos + len], work);
+    for piece in Pieces::of(at, bytes) {
+        let (p, e, t) = put_in_sector(flash, piece, work);
         programs += p;
         erases += e;
         ticks += t;
-        pos += len;
     }
     (programs, erases, ticks)
 }
@@ -45,6 +41,29 @@ fn is_inside(at: usize, len: usize, capacity: usize) -> bool
     ensures { result ≡ nat_le (at + len) capacity }
 {
     at <= capacity && len <= capacity - at
+}
+
+// Puts bytes at an address by way of the work buffer, unless that is refused.
+fn put_through<F: NorFlash>(
+    flash: &mut F,
+    at: usize,
+    bytes: &[u8],
+    work: &mut [u8; 4096],
+) -> Result<(u32, u32, u32), PutRefusal>
+    ensures answer { result ≡ put_answer at bytes.now 4096 (F.NorFlash.meaning flash.old) }
+    ensures after { F.NorFlash.meaning flash.new ≡ after_put result at bytes.now (F.NorFlash.meaning flash.old) }
+    ensures fewest { FewestErases result (F.NorFlash.meaning flash.old).bytes (F.NorFlash.meaning flash.new).bytes }
+{
+    if !is_inside(at, bytes.len(), flash.capacity()) {
+        return Err(PutRefusal::Range);
+    }
+    if !flash.is_ready() {
+        return Err(PutRefusal::Busy);
+    }
+    if let Some(sector) = first_locked(flash, at, bytes, work) {
+        return Err(PutRefusal::Protected { sector });
+    }
+    Ok(write_sectors(flash, at, bytes, work))
 }
 
 /// Puts bytes at an address: afterwards they stand there, and every other byte is as it was. A sector in which some bit
@@ -63,14 +82,6 @@ pub fn put<F: NorFlash>(
     ensures fewest { FewestErases result (F.NorFlash.meaning flash.old).bytes (F.NorFlash.meaning flash.new).bytes }
 {
     let guard = WorkBuffer { bytes: work };
-    if !is_inside(at, bytes.len(), flash.capacity()) || guard.bytes.len() != 4096 {
-        return Err(PutRefusal::Range);
-    }
-    if !flash.is_ready() {
-        return Err(PutRefusal::Busy);
-    }
-    if let Some(sector) = first_locked(flash, at, bytes, guard.bytes) {
-        return Err(PutRefusal::Protected { sector });
-    }
-    Ok(write_sectors(flash, at, bytes, guard.bytes))
+    let work = guard.bytes.as_mut_array().ok_or(PutRefusal::Range)?;
+    put_through(flash, at, bytes, work)
 }

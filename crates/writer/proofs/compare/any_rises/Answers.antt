@@ -1,16 +1,13 @@
-use Rattle.std.proofs.Common.{length, sym, ◌∙◌, arith, below_more}
-use Rattle.writer.specs.Needed.{rises_at}
-use Rattle.cells.proofs.Rising.{rises_is}
-use Rattle.cells.proofs.Spans.{any_found, any_none}
+use Rattle.std.proofs.Common.{ℕ, ◌∙◌, rules, tests}
+use Rattle.std.proofs.lemmas.Iterator.{YieldsList-from_slice, YieldsList-from_zip}
+use Rattle.std.proofs.lemmas.Iterator.Search.{any_from_yields_List}
+use Rattle.cells.specs.Bits.{rises}
+use Rattle.writer.proofs.Comparing.{any_pair}
 use Rattle.writer.proofs.compare.any_rises.Goals as goal
 
-pub returns-then-must_rise : goal.returns-then-must_rise
-returns-then-must_rise c =
-    any_found (rises_at c.args.old.now c.args.new.now) 0 (length c.args.new.now) c.loop-i.i (omega arith) (omega arith)
-    (sym (c.if-must_rise.ensures ∙ rises_is _ _ (omega arith)))
-
-pub loop-i-preserved : goal.loop-i-preserved
-loop-i-preserved c = below_more _ _ c.loop-i.invariant (sym (c.if-must_rise.ensures ∙ rises_is _ _ (omega arith)))
-
 pub returns : goal.returns
-returns c = sym (any_none (rises_at c.args.old.now c.args.new.now) 0 (length c.args.new.now) (λ k low high. c.loop-i.invariant k (omega arith)))
+returns c =
+    let old = c.args.old.now in
+    let new = c.args.new.now in
+    any_from_yields_List (λ (p : ℕ × ℕ). rises p.0 p.1) c.any.new.self _ _ c.any.ensures.ran (YieldsList-from_zip (YieldsList-from_slice old cc) (YieldsList-from_slice new cc)) (λ x b q k. search (rules, tests))
+    ∙ any_pair rises old new c.requires

@@ -1,15 +1,10 @@
-use Rattle.std.proofs.Common.{length, sym, arith, below_more}
-use Rattle.cells.proofs.Spans.{any_found, any_none}
-use Rattle.writer.specs.Needed.{written_at}
+use Rattle.std.proofs.Common.{ℕ, not, eqb, ◌∙◌, rules, tests}
+use Rattle.std.proofs.lemmas.Iterator.{YieldsList-from_slice}
+use Rattle.std.proofs.lemmas.Iterator.Search.{any_from_yields_List}
+use Rattle.writer.proofs.Comparing.{any_at}
 use Rattle.writer.proofs.compare.any_written.Goals as goal
 
-pub returns-then-is_written : goal.returns-then-is_written
-returns-then-is_written c =
-    any_found (written_at c.args.new.now) 0 (length c.args.new.now) c.loop-i.i (omega arith) (omega arith)
-    (sym c.if-is_written.ensures)
-
-pub loop-i-preserved : goal.loop-i-preserved
-loop-i-preserved c = below_more _ _ c.loop-i.invariant (sym c.if-is_written.ensures)
-
 pub returns : goal.returns
-returns c = sym (any_none (written_at c.args.new.now) 0 (length c.args.new.now) (λ k low high. c.loop-i.invariant k (omega arith)))
+returns c =
+    any_from_yields_List (λ (x : ℕ). not (eqb 255 x)) _ _ _ c.any.ensures.ran (YieldsList-from_slice c.args.new.now cc) (λ x b q k. search (rules, tests))
+    ∙ any_at (λ (x : ℕ). not (eqb 255 x)) 0 c.args.new.now

@@ -1,91 +1,66 @@
-use Rattle.std.proofs.Common.{◌≡◌, ℕ, ◌+◌, ◌*◌, ◌/◌, ◌<◌, ◌≤◌, true, false, List, length, get_or, sym, ap, ◌∙◌, subst, arith}
-use Rattle.std.proofs.lemmas.Nat.{mul-le}
-use Rattle.cells.specs.Changes.{erased}
-use Rattle.cells.proofs.Ranges.{length-changed}
+use Rattle.std.proofs.Common.{◌≡◌, ℕ, ◌+◌, ◌*◌, ◌/◌, ◌≤◌, List, length, get_or, sym, ap, ◌∙◌, subst, rules, arith}
 use Rattle.flash.specs.Meaning.{Meaning}
-use Rattle.writer.specs.Before.{byte_before, KnownTo}
-use Rattle.writer.specs.Needed.{placed, must_erase}
-use Rattle.writer.specs.Put.{Made}
-use Rattle.writer.specs.declared.before.Before.{Before}
-use Rattle.writer.proofs.Placing.{length-begun}
-use Rattle.writer.proofs.Needing.{Falls, programs_most}
-use Rattle.writer.proofs.Paging.{made_programs, made_ticks}
-use Rattle.writer.proofs.Sectors.{Elsewhere, in_sector, blanked, blanked_in, blanked_falls, rewritten, rewrite_made}
+use Rattle.writer.specs.Needed.{Falls, placed}
+use Rattle.writer.specs.Pieces.{composed}
+use Rattle.writer.specs.Put.{Made, holding}
+use Rattle.writer.proofs.Paging.{made_few}
+use Rattle.writer.proofs.Sectors.{in_sector, blanked, blanked_in, blanked_falls, whole_placed, rewrite_made}
 use Rattle.writer.proofs.sector.rewrite.Goals as goal
 
-pub program_pages-programs-requires : goal.program_pages-programs-requires
-program_pages-programs-requires g c =
-    let m = g.F.NorFlash.meaning c.args.flash.now in
-    let sound = g.met.F.NorFlash.sound c.args.flash.now in
-    let at = c.args.at in
-    let bytes = c.args.bytes.now in
-    let sector = c.sector_of-sector.result in
-    let same : sector ≡ at / 4096 = c.sector_of-sector.ensures in
-    let new = placed at bytes m.bytes in
-    let work = c.compose.new.work in
-    let some = c.requires.some in
-    let fits = c.requires.sector in
-    let inside = c.requires.within in
-    let sectors = sound.sectors in
-    let there : sector * 4096 + 4096 ≤ length m.bytes = omega arith in
-    let far = subst (λ (s : ℕ). Elsewhere s m.bytes new) (sym same) (in_sector at bytes m.bytes fits) in
-    let composed = subst (λ (s : ℕ). (k : ℕ) → k < 4096 → get_or work k 0 ≡ get_or new (s * 4096 + k) 0) (sym same) c.compose.ensures in
-    let long : length work ≡ 4096 = omega (arith, c.requires.long, c.compose.auto.work) in
-    let is = c.erase-erases.ensures.after in
-    let held = ap (λ (x : Meaning). x.bytes) is in
-    let count = ap length held ∙ length-changed (sector * 4096) 4096 erased m.bytes in
-    let place : sector * 4096 / 4096 ≡ sector = omega arith in
-    let becomes = rewritten sector work m.bytes new long (length-begun at bytes (length bytes) m.bytes) composed far in
-    record {
-      ready = ap (λ (x : Meaning). x.left) is;
-      sector = omega arith;
-      within = omega arith;
-      free = ap (λ (x : Meaning). get_or x.marks (sector * 4096 / 4096) false) is ∙ ap (λ (s : ℕ). get_or m.marks s false) (place ∙ same) ∙ c.requires.free;
-      falls = subst (λ (xs : List ℕ). Falls xs (placed (sector * 4096) work xs)) (sym held) (subst (λ (xs : List ℕ). Falls (blanked sector m.bytes) xs) (sym becomes) (blanked_falls sector m.bytes new there far));
-      known = subst (λ (b : Before). KnownTo (length work) b) (sym c.blank.ensures) tt;
-      before = λ k h.
-          ap (λ (b : Before). byte_before b k) c.blank.ensures
-          ∙ sym (ap (λ (xs : List ℕ). get_or xs (sector * 4096 + k) 0) held ∙ blanked_in sector m.bytes (sector * 4096 + k) (omega arith) (omega arith) (omega arith));
-    }
+pub program_pages-programs-requires-clause-falls : goal.program_pages-programs-requires-clause-falls
+program_pages-programs-requires-clause-falls g c =
+    let old = (g.F.NorFlash.meaning c.args.flash.now).bytes in
+    let sectors = (g.met.F.NorFlash.sound c.args.flash.now).sectors in
+    let at = c.args.piece.at in
+    let bytes = c.args.piece.bytes.now in
+    let some = c.args.piece.some in
+    let fits = c.args.piece.inside in
+    let within = c.requires.fits.within in
+    let there : at / 4096 * 4096 + 4096 ≤ length old = omega arith in
+    let whole = c.whole.result in
+    let is : whole.bytes.now ≡ composed at bytes old = c.whole.ensures.bytes ∙ c.compose.ensures in
+    let held = ap (λ (x : Meaning). x.bytes) c.erase-erases.ensures.after ∙ ap (λ (s : ℕ). blanked s old) c.sector-sector.ensures in
+    let becomes = whole_placed at bytes old whole.at whole.bytes.now fits there (search rules) is (ap length c.whole.ensures.bytes ∙ c.compose.array_long) in
+    subst (λ (xs : List ℕ). Falls xs (placed whole.at whole.bytes.now xs)) (sym held)
+    (subst (λ (xs : List ℕ). Falls (blanked (at / 4096) old) xs) (sym becomes) (blanked_falls (at / 4096) old (placed at bytes old) there (in_sector at bytes old fits)))
+
+pub program_pages-programs-requires-clause-before : goal.program_pages-programs-requires-clause-before
+program_pages-programs-requires-clause-before g c k h =
+    let old = (g.F.NorFlash.meaning c.args.flash.now).bytes in
+    let sectors = (g.met.F.NorFlash.sound c.args.flash.now).sectors in
+    let at = c.args.piece.at in
+    let some = c.args.piece.some in
+    let within = c.requires.fits.within in
+    let whole = c.whole.result in
+    let held = ap (λ (x : Meaning). x.bytes) c.erase-erases.ensures.after in
+    sym (ap (λ (xs : List ℕ). get_or xs (whole.at + k) 0) held ∙ blanked_in c.sector-sector.result old (whole.at + k) (omega arith) (omega arith) (omega arith))
 
 pub overflow_add-result : goal.overflow_add-result
 overflow_add-result g c =
-    let m = g.F.NorFlash.meaning c.args.flash.now in
     let sound = g.met.F.NorFlash.sound c.args.flash.now in
-    let here = g.F.NorFlash.meaning c.erase-erases.new.flash in
-    let sound-here = g.met.F.NorFlash.sound c.erase-erases.new.flash in
-    let programs = programs_most _ _ _ (made_programs _ _ _ _ _ _ c.program_pages-programs.ensures) in
-    let ticks = made_ticks _ _ _ _ _ _ c.program_pages-programs.ensures in
-    let a = mul-le c.program_pages-programs.result.0 here.program_ticks 4096 65536 (omega arith) (omega arith) in
-    let b = ap (λ (cost : ℕ × ℕ). cost.1) c.erase-erases.ensures.cost in
+    let after = made_few _ _ _ _ _ _ (g.met.F.NorFlash.sound c.erase-erases.new.flash) c.program_pages-programs.ensures in
+    let spent = ap (λ (cost : ℕ × ℕ). cost.1) c.erase-erases.ensures.cost in
     omega arith
 
 pub returns : goal.returns
 returns g c =
     let m = g.F.NorFlash.meaning c.args.flash.now in
-    let sound = g.met.F.NorFlash.sound c.args.flash.now in
+    let old = m.bytes in
+    let sectors = (g.met.F.NorFlash.sound c.args.flash.now).sectors in
     let here = g.F.NorFlash.meaning c.erase-erases.new.flash in
     let after = g.F.NorFlash.meaning c.program_pages-programs.new.flash in
-    let at = c.args.at in
-    let bytes = c.args.bytes.now in
-    let sector = c.sector_of-sector.result in
-    let same : sector ≡ at / 4096 = c.sector_of-sector.ensures in
-    let new = placed at bytes m.bytes in
-    let work = c.compose.new.work in
+    let at = c.args.piece.at in
+    let bytes = c.args.piece.bytes.now in
+    let some = c.args.piece.some in
+    let fits = c.args.piece.inside in
+    let within = c.requires.fits.within in
+    let there : at / 4096 * 4096 + 4096 ≤ length old = omega arith in
+    let whole = c.whole.result in
     let programs = c.program_pages-programs.result.0 in
     let ticks = c.program_pages-programs.result.1 in
-    let some = c.requires.some in
-    let fits = c.requires.sector in
-    let inside = c.requires.within in
-    let sectors = sound.sectors in
-    let far = subst (λ (s : ℕ). Elsewhere s m.bytes new) (sym same) (in_sector at bytes m.bytes fits) in
-    let composed = subst (λ (s : ℕ). (k : ℕ) → k < 4096 → get_or work k 0 ≡ get_or new (s * 4096 + k) 0) (sym same) c.compose.ensures in
-    let long : length work ≡ 4096 = omega (arith, c.requires.long, c.compose.auto.work) in
-    let is = c.erase-erases.ensures.after in
-    let becomes =
-    ap (λ (x : Meaning). placed (sector * 4096) work x.bytes) is
-    ∙ rewritten sector work m.bytes new long (length-begun at bytes (length bytes) m.bytes) composed far
-    in
+    let is : whole.bytes.now ≡ composed at bytes old = c.whole.ensures.bytes ∙ c.compose.ensures in
+    let erased : here ≡ holding (blanked (at / 4096) old) 0 1 m = c.erase-erases.ensures.after ∙ ap (λ (s : ℕ). holding (blanked s old) 0 1 m) c.sector-sector.ensures in
+    let becomes = ap (λ (x : Meaning). placed whole.at whole.bytes.now x.bytes) erased ∙ whole_placed at bytes old whole.at whole.bytes.now fits there (search rules) is (ap length c.whole.ensures.bytes ∙ c.compose.array_long) in
     let made = subst (λ (xs : List ℕ). Made xs here after (programs, 0, ticks)) becomes c.program_pages-programs.ensures in
-    subst (λ (cost : ℕ × ℕ). Made new m after (programs, cost.0, cost.1 + ticks)) (sym c.erase-erases.ensures.cost)
-    (rewrite_made sector new m here after programs ticks (omega arith) far (subst (λ (s : ℕ). must_erase m.bytes new s ≡ true) (sym same) c.requires.rises) is made)
+    subst (λ (cost : ℕ × ℕ). Made (placed at bytes old) m after (programs, cost.0, cost.1 + ticks)) (sym c.erase-erases.ensures.cost)
+    (rewrite_made (at / 4096) (placed at bytes old) m here after programs ticks there (in_sector at bytes old fits) c.requires.rises erased made)

@@ -1,112 +1,69 @@
-use Rattle.std.proofs.Common.{◌≡◌, ℕ, ◌+◌, ◌-◌, ◌/◌, ◌%◌, Bool, false, ◌&&◌, List, length, get_or, take, drop, sym, ap, ◌∙◌, subst, arith}
-use Rattle.std.proofs.lemmas.Nat.{mul-le}
+use Rattle.std.proofs.Common.{◌≡◌, ℕ, ◌-◌, ◌/◌, Bool, false, ◌&&◌, List, length, get_or, ap, ◌∙◌, subst, rules, arith}
 use Rattle.flash.specs.Meaning.{Meaning}
 use Rattle.writer.specs.Needed.{placed, is_touched}
 use Rattle.writer.specs.Put.{is_locked}
-use Rattle.writer.proofs.Placing.{begun, begun_more, length-begun, length_part}
-use Rattle.writer.proofs.Needing.{programs_most, erases_most}
-use Rattle.writer.proofs.Paging.{made_programs, made_erases, made_ticks}
-use Rattle.writer.proofs.Walking.{next_piece, piece_touches, SectorsMade, sectors_start, sectors_step, sectors_done}
+use Rattle.writer.proofs.Paging.{made_few}
+use Rattle.writer.proofs.Parts.{turn, part_more}
+use Rattle.writer.proofs.Placing.{begun}
+use Rattle.writer.proofs.Walking.{piece_touches, SectorsMade, sectors_start, sectors_step, sectors_few}
 use Rattle.writer.proofs.write.write_sectors.Goals as goal
 
-pub loop-pos-init : goal.loop-pos-init
-loop-pos-init g c = (
-  sectors_start c.args.at c.args.bytes.now (g.F.NorFlash.meaning c.args.flash.now) (g.met.F.NorFlash.sound c.args.flash.now) c.requires.ready,
-  omega arith,
-  λ h k. absurd (omega arith),
-)
-
-pub put_in_sector-p-requires : goal.put_in_sector-p-requires
-put_in_sector-p-requires g c =
+pub loop-piece-init : goal.loop-piece-init
+loop-piece-init g c =
     let m = g.F.NorFlash.meaning c.args.flash.now in
-    let sound = g.met.F.NorFlash.sound c.args.flash.now in
-    let sectors = sound.sectors in
     let at = c.args.at in
     let bytes = c.args.bytes.now in
-    let pos = c.loop-pos.pos in
-    let len = c.stretch-len.result in
-    let n = pos + len - pos in
-    let there = c.requires.within in
-    let more = c.loop-pos-test.true in
-    let piece = next_piece at bytes m.bytes pos len n more there (c.loop-pos.invariant.2 more) c.stretch-len.ensures (omega arith) in
-    let part = take n (drop pos bytes) in
-    let inside = piece.inside in
-    let fits = piece.fits in
+    let pieces = c.into_iter-piece-iterator.result in
+    let all : pieces.rest.now ≡ bytes = search rules in
+    let n = ap length all in
+    let none : 0 ≡ length bytes - length pieces.rest.now = omega arith in (
+      search rules,
+      subst (λ (k : ℕ). SectorsMade at bytes k m m 0 0 0) none (sectors_start at bytes m (g.met.F.NorFlash.sound c.args.flash.now) c.requires.fits.ready),
+    )
+
+pub put_in_sector-p-requires-clause-free : goal.put_in_sector-p-requires-clause-free
+put_in_sector-p-requires-clause-free g c =
+    let m = g.F.NorFlash.meaning c.args.flash.now in
+    let sectors = (g.met.F.NorFlash.sound c.args.flash.now).sectors in
+    let at = c.args.at in
+    let bytes = c.args.bytes.now in
+    let piece = c.in-Some.piece in
+    let pos = length bytes - length c.loop-piece.piece-iterator.rest.now in
+    let part = (turn 4096 at bytes m.bytes c.loop-piece.piece-iterator c.next.new.self piece c.loop-piece.invariant.0 c.in-Some.ensures.steps c.requires.fits.within).part in
+    let place = part.place in
+    let inside = part.inside in
     let some = piece.some in
-    let long = length_part bytes pos n inside in
-    let whole = length-begun at bytes pos m.bytes in
-    let is = c.loop-pos.invariant.0.holds in
-    let count = ap (λ (x : Meaning). length x.bytes) is in
-    let sector = (at + pos) / 4096 in
-    record {
-      long = omega (arith, c.requires.long, c.loop-pos.auto.work);
-      ready = ap (λ (x : Meaning). x.left) is;
-      some = omega arith;
-      sector = omega arith;
-      within = omega arith;
-      free =
-          ap (λ (x : Meaning). is_locked x (placed (at + pos) part x.bytes) sector) is
-          ∙ ap (λ (xs : List ℕ). get_or m.marks sector false && is_touched (begun at bytes pos m.bytes) xs sector) (begun_more at bytes pos n m.bytes inside)
-          ∙ ap (λ (b : Bool). get_or m.marks sector false && b) (piece_touches at bytes m.bytes pos n piece)
-          ∙ c.requires.free sector (omega arith);
-    }
+    let within = c.requires.fits.within in
+    let sector = piece.at / 4096 in
+    ap (λ (x : Meaning). is_locked x (placed piece.at piece.bytes.now x.bytes) sector) c.loop-piece.invariant.1.holds
+    ∙ ap (λ (xs : List ℕ). get_or m.marks sector false && is_touched (begun at bytes pos m.bytes) xs sector) (part_more 4096 at bytes m.bytes pos piece part)
+    ∙ ap (λ (b : Bool). get_or m.marks sector false && b) (piece_touches at bytes m.bytes pos piece part)
+    ∙ c.requires.free sector (omega arith)
 
 pub overflow_add-programs : goal.overflow_add-programs
 overflow_add-programs g c =
-    let sound = g.met.F.NorFlash.sound c.args.flash.now in
-    let sound-here = g.met.F.NorFlash.sound c.loop-pos.flash in
-    let first = programs_most _ _ _ c.loop-pos.invariant.0.programmed in
-    let more = programs_most _ _ _ (made_programs _ _ _ _ _ _ c.put_in_sector-p.ensures) in
+    let so_far = sectors_few _ _ _ _ _ _ _ _ (g.met.F.NorFlash.sound c.args.flash.now) c.loop-piece.invariant.1 in
+    let more = made_few _ _ _ _ _ _ (g.met.F.NorFlash.sound c.loop-piece.flash) c.put_in_sector-p.ensures in
     omega arith
 
 pub overflow_add-erases : goal.overflow_add-erases
 overflow_add-erases g c =
-    let sound = g.met.F.NorFlash.sound c.args.flash.now in
-    let sound-here = g.met.F.NorFlash.sound c.loop-pos.flash in
-    let first = erases_most _ _ _ c.loop-pos.invariant.0.erased in
-    let more = erases_most _ _ _ (made_erases _ _ _ _ _ _ c.put_in_sector-p.ensures) in
+    let so_far = sectors_few _ _ _ _ _ _ _ _ (g.met.F.NorFlash.sound c.args.flash.now) c.loop-piece.invariant.1 in
+    let more = made_few _ _ _ _ _ _ (g.met.F.NorFlash.sound c.loop-piece.flash) c.put_in_sector-p.ensures in
     omega arith
 
 pub overflow_add-ticks : goal.overflow_add-ticks
 overflow_add-ticks g c =
-    let m = g.F.NorFlash.meaning c.args.flash.now in
-    let sound = g.met.F.NorFlash.sound c.args.flash.now in
-    let here = g.F.NorFlash.meaning c.loop-pos.flash in
-    let sound-here = g.met.F.NorFlash.sound c.loop-pos.flash in
-    let first = programs_most _ _ _ c.loop-pos.invariant.0.programmed in
-    let more = programs_most _ _ _ (made_programs _ _ _ _ _ _ c.put_in_sector-p.ensures) in
-    let first' = erases_most _ _ _ c.loop-pos.invariant.0.erased in
-    let more' = erases_most _ _ _ (made_erases _ _ _ _ _ _ c.put_in_sector-p.ensures) in
-    let spent = made_ticks _ _ _ _ _ _ c.put_in_sector-p.ensures in
-    let t = c.loop-pos.invariant.0.time in
-    let a1 = mul-le c.loop-pos.programs m.program_ticks 4096 65536 (omega arith) (omega arith) in
-    let a2 = mul-le c.loop-pos.erases m.erase_ticks 256 65536 (omega arith) (omega arith) in
-    let a3 = mul-le c.put_in_sector-p.result.0 here.program_ticks 4096 65536 (omega arith) (omega arith) in
-    let a4 = mul-le c.put_in_sector-p.result.1 here.erase_ticks 256 65536 (omega arith) (omega arith) in
+    let so_far = sectors_few _ _ _ _ _ _ _ _ (g.met.F.NorFlash.sound c.args.flash.now) c.loop-piece.invariant.1 in
+    let more = made_few _ _ _ _ _ _ (g.met.F.NorFlash.sound c.loop-piece.flash) c.put_in_sector-p.ensures in
     omega arith
 
-pub loop-pos-preserved : goal.loop-pos-preserved
-loop-pos-preserved g c =
+pub loop-piece-preserved : goal.loop-piece-preserved
+loop-piece-preserved g c =
     let m = g.F.NorFlash.meaning c.args.flash.now in
     let at = c.args.at in
     let bytes = c.args.bytes.now in
-    let pos = c.loop-pos.pos in
-    let len = c.stretch-len.result in
-    let n = pos + len - pos in
-    let there = c.requires.within in
-    let more = c.loop-pos-test.true in
-    let piece = next_piece at bytes m.bytes pos len n more there (c.loop-pos.invariant.2 more) c.stretch-len.ensures (omega arith) in
-    let on : pos + n ≡ pos + len = omega arith in
-    let after = g.F.NorFlash.meaning c.put_in_sector-p.new.flash in
+    let piece = c.in-Some.piece in
+    let is = turn 4096 at bytes m.bytes c.loop-piece.piece-iterator c.next.new.self piece c.loop-piece.invariant.0 c.in-Some.ensures.steps c.requires.fits.within in
     let cost = c.put_in_sector-p.result in
-    let step = sectors_step at bytes pos n m (g.F.NorFlash.meaning c.loop-pos.flash) after c.loop-pos.programs c.loop-pos.erases c.loop-pos.ticks cost.0 cost.1 cost.2 piece c.loop-pos.invariant.0 c.put_in_sector-p.ensures in (
-      subst (λ (k : ℕ). SectorsMade at bytes k m after (c.loop-pos.programs + cost.0) (c.loop-pos.erases + cost.1) (c.loop-pos.ticks + cost.2)) on step,
-      omega arith,
-      λ h some. let e = piece.ends (omega arith) in sym (ap (λ (k : ℕ). (at + k) % 4096) on) ∙ e,
-    )
-
-pub returns : goal.returns
-returns g c =
-    let short = c.loop-pos.invariant.1 in
-    sectors_done c.args.at c.args.bytes.now c.loop-pos.pos (g.F.NorFlash.meaning c.args.flash.now) (g.F.NorFlash.meaning c.loop-pos.flash) c.loop-pos.programs c.loop-pos.erases c.loop-pos.ticks
-    (omega arith) c.loop-pos.invariant.0
+    (is.walk, sectors_step at bytes _ m (g.F.NorFlash.meaning c.loop-piece.flash) _ c.loop-piece.programs c.loop-piece.erases c.loop-piece.ticks cost.0 cost.1 cost.2 piece is.part c.loop-piece.invariant.1 c.put_in_sector-p.ensures _ is.on)

@@ -1,13 +1,10 @@
-use Rattle.std.proofs.Common.{◌≡◌, ◌+◌, ◌-◌, ◌%◌, ◌<◌, ◌≤◌, length}
+use Rattle.std.proofs.Common.{◌-◌, length}
+use Rattle.writer.proofs.Parts.{Walk}
 use Rattle.writer.proofs.Walking.{SectorsMade}
 use Rattle.writer.proofs.write.write_sectors.Given as goal
 
--- the bytes before pos stand; unless it is done or has not begun, a sector begins at pos
-abbrev pub invariant-loop-pos : goal.invariant-loop-pos
-invariant-loop-pos g l =
-    SectorsMade l.at l.bytes l.pos (g.F.NorFlash.meaning l.initial.flash) (g.F.NorFlash.meaning l.flash) l.programs l.erases l.ticks
-    × (l.pos ≤ length l.bytes)
-    × (l.pos < length l.bytes → 0 < l.pos → (l.at + l.pos) % 4096 ≡ 0)
-
-abbrev pub decreases-loop-pos : goal.decreases-loop-pos
-decreases-loop-pos g l = length l.bytes - l.pos
+-- the bytes before what is left stand
+abbrev pub invariant-loop-piece : goal.invariant-loop-piece
+invariant-loop-piece g l =
+    Walk 4096 l.at l.bytes l.piece-iterator
+    × SectorsMade l.at l.bytes (length l.bytes - length l.piece-iterator.rest.now) (g.F.NorFlash.meaning l.initial.flash) (g.F.NorFlash.meaning l.flash) l.programs l.erases l.ticks

@@ -1,0 +1,22 @@
+-- Whether some byte of a list passes a test, or some pair of bytes at one place of two lists.
+use Rattle.std.proofs.Common.{◌≡◌, ℕ, suc, ◌+◌, Bool, ◌||◌, List, [], ◌∷◌, length, get_or, refl, ap, ◌∙◌, arith}
+use Rattle.std.specs.List.{list_any, zip}
+use Rattle.std.proofs.lemmas.Slice.Zip.{length-zip, get_or-zip}
+use Rattle.cells.specs.Tests.{any_in}
+use Rattle.cells.proofs.Spans.{any_same, any_shifted}
+
+-- by the places of the list
+pub any_at : {A : Type 0} (test : A → Bool) (d : A) (xs : List A) → list_any test xs ≡ any_in (λ k. test (get_or xs k d)) 0 (length xs)
+unfolding any_in
+any_at test d [] = refl
+any_at test d (x ∷ xs) =
+    ap (λ (b : Bool). test x || b) (any_at test d xs ∙ any_shifted (λ k. test (get_or xs k d)) (λ k. test (get_or (x ∷ xs) k d)) 1 (length xs) (λ k h. let next : suc k ≡ 1 + k = omega arith in ap (λ (i : ℕ). test (get_or (x ∷ xs) i d)) next))
+
+-- and of two lists of one length
+pub any_pair : (test : ℕ → ℕ → Bool) (xs ys : List ℕ) → length xs ≡ length ys → list_any (λ (p : ℕ × ℕ). test p.0 p.1) (zip xs ys) ≡ any_in (λ k. test (get_or xs k 0) (get_or ys k 0)) 0 (length ys)
+any_pair test xs ys same =
+    let n : length (zip xs ys) ≡ length ys = length-zip xs ys ∙ omega arith in
+    any_at (λ (p : ℕ × ℕ). test p.0 p.1) (0, 0) (zip xs ys)
+    ∙ ap (λ (m : ℕ). any_in (λ k. test (get_or (zip xs ys) k (0, 0)).0 (get_or (zip xs ys) k (0, 0)).1) 0 m) n
+    ∙ any_same (λ k. test (get_or (zip xs ys) k (0, 0)).0 (get_or (zip xs ys) k (0, 0)).1) (λ k. test (get_or xs k 0) (get_or ys k 0)) 0 (length ys)
+    (λ k low high. ap (λ (p : ℕ × ℕ). test p.0 p.1) (get_or-zip xs ys k (0, 0) (omega arith) (omega arith)))
