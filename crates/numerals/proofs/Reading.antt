@@ -1,6 +1,6 @@
 -- Reading on, digit by digit: a number only grows, so one that does not fit is lost for good.
 use Rattle.std.proofs.Common.{◌≡◌, ℕ, ◌+◌, ◌*◌, ◌^◌, ◌<◌, ◌≤◌, Bool, true, false, cond, ◌&&◌, ltb, List, [], ◌∷◌, ◌++◌, length, get_or, drop, Some, None, sym, refl, ap, ◌∙◌, inl, inr, le_refl, mul-le-mul_left, mul-one, arith}
-use Rattle.std.proofs.lemmas.List.{at_drop_more, at_drop_all}
+use Rattle.std.proofs.lemmas.List.{at_drop_more}
 use Rattle.std.proofs.lemmas.Bool.{le-ltb, lt-ltb, cases_lt}
 use Rattle.std.proofs.lemmas.Bool.Decides.{nat_tests}
 use Rattle.std.specs.Str.Parse.{digits_value_after}
@@ -29,35 +29,12 @@ read_digit : (base n d : ℕ) (ds : List ℕ) → digit_value d < base → with_
 read_digit base n d ds h =
     ap (λ (b : Bool). cond (b && are_digits base ds) (fitting 64 (Some (digits_value_after base (n * base + digit_value d) ds))) None) (lt-ltb _ _ h)
 
--- one more byte is at hand, worth d
-module _ (base n : ℕ) (ds : List ℕ) (i d : ℕ) (within : i < length ds) (is : d ≡ digit_value (get_or ds i 0)) where
-  -- no digit: the end
-  pub digit_refused : base ≤ d → with_digits base n (drop i ds) ≡ None
-  digit_refused h =
-      let e : ltb (digit_value (get_or ds i 0)) base ≡ false = le-ltb _ _ (omega arith) in
-      at_drop_more (with_digits base n) ds i 0 within ∙ rw e
-
-  step : d < base → with_digits base n (drop i ds) ≡ with_digits base (n * base + d) (drop (i + 1) ds)
-  step h =
-      at_drop_more (with_digits base n) ds i 0 within
-      ∙ read_digit base n (get_or ds i 0) (drop (i + 1) ds) (omega arith)
-      ∙ ap (λ (x : ℕ). with_digits base (n * base + x) (drop (i + 1) ds)) (sym is)
-
-  -- a digit: it is read, and the rest after it
-  pub digit_read : (m : ℕ) → d < base → Some m ≡ fitting 64 (Some (n * base + d)) → with_digits base n (drop i ds) ≡ with_digits base m (drop (i + 1) ds)
-  digit_read m h f =
-      let k : n * base + d ≡ m = grind (arith, nat_tests) in
-      step h ∙ ap (λ (x : ℕ). with_digits base x (drop (i + 1) ds)) k
-
-  -- a digit with which the number no longer fits: the end
-  pub digit_overflows : 1 ≤ base → d < base → None ≡ fitting 64 (Some (n * base + d)) → with_digits base n (drop i ds) ≡ None
-  digit_overflows one h f =
-      let k : 2 ^ 64 ≤ n * base + d = grind (arith, nat_tests) in
-      step h ∙ too_large base (n * base + d) (drop (i + 1) ds) one k
-
--- nothing is left
-pub digits_end : (base n : ℕ) (ds : List ℕ) (i : ℕ) → length ds ≤ i → n < 2 ^ 64 → with_digits base n (drop i ds) ≡ Some n
-digits_end base n ds i h k = let e : ltb n (2 ^ 64) ≡ true = lt-ltb _ _ k in at_drop_all (with_digits base n) ds i h ∙ rw e
+-- a digit with which the number no longer fits: the end
+pub digit_overflows : (base n : ℕ) (ds : List ℕ) (i : ℕ) → i < length ds → 1 ≤ base → digit_value (get_or ds i 0) < base → 2 ^ 64 ≤ n * base + digit_value (get_or ds i 0) → with_digits base n (drop i ds) ≡ None
+digit_overflows base n ds i within one h k =
+    at_drop_more (with_digits base n) ds i 0 within
+    ∙ read_digit base n (get_or ds i 0) (drop (i + 1) ds) h
+    ∙ too_large base (n * base + digit_value (get_or ds i 0)) (drop (i + 1) ds) one k
 
 -- a row of digits that cannot be read cannot be read with more after it
 pub joined_none : (base n : ℕ) (ds es : List ℕ) → 1 ≤ base → with_digits base n ds ≡ None → with_digits base n (ds ++ es) ≡ None

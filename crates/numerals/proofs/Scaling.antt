@@ -1,9 +1,11 @@
 -- Zeros past the places leave a number as it is; anything else past them makes it no whole number of units.
 use Rattle.std.proofs.Common.{◌≡◌, ℕ, ◌+◌, ◌-◌, ◌*◌, ◌%◌, ◌^◌, ◌<◌, ◌≤◌, min, Bool, true, false, cond, not, eqb, List, [], ◌∷◌, ◌++◌, length, take, drop, Some, None, Option, sym, refl, ap, ◌∙◌, inl, inr, mul_assoc, add-mul, mul-lt-mul_of_pos_right, le-mul_of_pos_right, mul-div_cancel, arith, pow-add}
 use native.Mathlib.Nat.{mul-mod_left, one-le-pow}
+use Rattle.std.proofs.Math.Nat.{mul-le-mul_left, pow-le-pow_right}
+use Rattle.std.proofs.lemmas.Grind.{pow_more}
 use Rattle.std.proofs.lemmas.Nat.{mod-mul-add}
 use Rattle.std.proofs.lemmas.Int.Digits.{digits_value-lt}
-use Rattle.std.proofs.lemmas.List.{append_assoc, take-append-drop, take_rest, length-drop}
+use Rattle.std.proofs.lemmas.List.{append_assoc, take-append-drop, length-drop}
 use Rattle.std.proofs.lemmas.Bool.{and_parts, ne_eqb, cases_Bool, cases_lt, eqb-false, not-true}
 use Rattle.std.proofs.lemmas.Bool.Decides.{nat_tests}
 use Rattle.std.specs.Str.Parse.{digits_value}
@@ -13,6 +15,13 @@ use Rattle.numerals.proofs.Zeros.{below_from, digits_last, digits_then_zeros, va
 
 ten_pow : (k : ℕ) → 0 < 10 ^ k
 ten_pow k = one-le-pow k 10 (omega arith)
+
+-- one zero more makes a number ten times as large, and more zeros never make it smaller
+pub one_more_zero : (n k : ℕ) → n * 10 ^ (k + 1) ≡ n * 10 ^ k * 10
+one_more_zero n k = ap (λ (x : ℕ). n * x) (pow_more 10 k) ∙ sym (mul_assoc n (10 ^ k) 10)
+
+pub zeros_grow : (n k z : ℕ) → k ≤ z → n * 10 ^ k ≤ n * 10 ^ z
+zeros_grow n k z h = mul-le-mul_left n (pow-le-pow_right (omega arith) h)
 
 -- b zeros past the k places that count
 exactly_zeros : (places k b x m : ℕ) → b + places ≡ x + k → exactly places k (Some (m * 10 ^ b)) ≡ Some (m * 10 ^ x)
@@ -85,13 +94,13 @@ units_none : (places : ℕ) (whole fraction : List ℕ) → length whole ≡ 0 �
 units_none places [] fraction h = refl
 units_none places (c ∷ cs) fraction h = absurd (omega arith)
 
--- a whole part, and a fraction cut at the places; what lies past them is written as the code cuts it off
+-- a whole part, and a fraction cut at the places
 module _ (places : ℕ) (whole fraction : List ℕ) (kept : ℕ) (cut : kept ≡ min places (length fraction)) where
   abbrev row : List ℕ
   row = whole ++ take kept fraction
 
   abbrev past : List ℕ
-  past = take (length fraction - kept) (drop kept fraction)
+  past = drop kept fraction
 
   joined : 0 < length whole → units_of places whole fraction ≡ exactly places (length fraction) (counted (row ++ drop kept fraction))
   joined some =
@@ -111,7 +120,7 @@ module _ (places : ℕ) (whole fraction : List ℕ) (kept : ℕ) (cut : kept ≡
         | inl some ↦
             let e : eqb (length whole) 0 ≡ false = ne_eqb _ _ (λ z. omega arith) in
             let z : are_zeros past ≡ false = rw e at h in
-            ap (fitting 31) (refused some (ap are_zeros (sym (take_rest fraction kept)) ∙ z))
+            ap (fitting 31) (refused some z)
         | inr none ↦ ap (fitting 31) (units_none places whole fraction (omega arith))
       ]
 
@@ -122,7 +131,7 @@ module _ (places : ℕ) (whole fraction : List ℕ) (kept : ℕ) (cut : kept ≡
       let n = eqb-false _ _ (not-true _ p.0) in
       let some : 0 < length whole = elim (cases_lt 0 (length whole)) [ inl l ↦ l | inr l ↦ absurd (n (omega arith)) ] in
       joined some
-      ∙ counted_zeros places (length fraction) (places - kept) row (drop kept fraction) (ap are_zeros (sym (take_rest fraction kept)) ∙ p.1)
+      ∙ counted_zeros places (length fraction) (places - kept) row (drop kept fraction) p.1
       (omega (arith, length-drop kept fraction))
 
   pub units_lost : is_exact whole past ≡ true → with_digits 10 0 row ≡ None → fitting 31 (units_of places whole fraction) ≡ None

@@ -1,52 +1,34 @@
 // Rows of digits.
 ghost use Rattle.std.specs.Prelude.{◌≡◌, ℕ, ◌+◌, ◌*◌, ◌≤◌, Some};
-ghost use Rattle.std.specs.Char.{digit_value};
 ghost use Rattle.numerals.specs.Digits.{fitting, numeral_of, with_digits};
 
-// What a byte is worth as a digit. No base has a digit 36.
-fn digit_value(byte: u8) -> usize
-    ensures { result ≡ digit_value byte }
-{
-    match byte {
-        b'0'..=b'9' => (byte - b'0') as usize,
-        b'A'..=b'Z' => (byte - b'A') as usize + 10,
-        b'a'..=b'z' => (byte - b'a') as usize + 10,
-        _ => 36,
-    }
-}
-
 // The number with one more digit after it.
-fn append_digit(number: usize, base: usize, digit: usize) -> Option<usize>
+fn append_digit(number: usize, base: u32, digit: u32) -> Option<usize>
     ensures { result ≡ fitting 64 (Some (number * base + digit)) }
 {
-    match number.checked_mul(base) {
-        Some(shifted) => shifted.checked_add(digit),
-        None => None,
-    }
+    number
+        .checked_mul(base as usize)?
+        .checked_add(digit as usize)
 }
 
 // The number with a row of digits after it; none if a byte is no digit of the base.
-pub(crate) fn append_digits(number: usize, base: usize, digits: &[u8]) -> Option<usize>
-    requires { 1 ≤ base }
+pub(crate) fn append_digits(number: usize, base: u32, digits: &[u8]) -> Option<usize>
+    requires low { 2 ≤ base }
+    requires high { base ≤ 36 }
     ensures { result ≡ with_digits base number digits.now }
 {
     let mut sum = number;
     for byte in digits {
-        let digit = digit_value(*byte);
-        if digit >= base {
-            return None;
-        }
-        match append_digit(sum, base, digit) {
-            Some(more) => sum = more,
-            None => return None,
-        }
+        let digit = char::from(*byte).to_digit(base)?;
+        sum = append_digit(sum, base, digit)?;
     }
     Some(sum)
 }
 
 // One digit or more of a base, and nothing else.
-pub(crate) fn read_numeral(base: usize, text: &[u8]) -> Option<usize>
-    requires { 1 ≤ base }
+pub(crate) fn read_numeral(base: u32, text: &[u8]) -> Option<usize>
+    requires low { 2 ≤ base }
+    requires high { base ≤ 36 }
     ensures { result ≡ fitting 64 (numeral_of base text.now) }
 {
     match text {

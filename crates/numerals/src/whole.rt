@@ -12,6 +12,7 @@ pub fn read_whole(text: &[u8]) -> Option<usize>
 }
 
 /// A hexadecimal number after `0x`, with digits of either case, or a decimal number; below 2^64.
+#[tactic(auto, using(crate::proofs::Marks::address_marked))]
 pub fn read_address(text: &[u8]) -> Option<usize>
     ensures { result ≡ address_of text.now }
 {

@@ -2,6 +2,7 @@
 //! writes gives that row. Here are the temperature row and the reflector row.
 #![tactic(auto)]
 
+mod bytes;
 mod law;
 mod limits;
 mod reflector;

@@ -5,5 +5,5 @@ ghost use Rattle.rows.specs.Limits.{is_offset};
 pub(crate) fn is_offset(offset: i16) -> bool
     ensures { result ≡ is_offset offset }
 {
-    offset >= -9999 && offset <= 9999
+    (-9999..=9999).contains(&offset)
 }

@@ -13,12 +13,12 @@ pub enum RowRefusal {
     NoRow,
 }
 
-impl RowRefusal {
+impl From<RowRefusal> for u8 {
+    ghost from_gives = { λ refusal number. number ≡ row_number_of refusal };
+
     /// The number by which the refusal is known.
-    pub fn number(self) -> u8
-        ensures { result ≡ row_number_of self }
-    {
-        match self {
+    fn from(refusal: RowRefusal) -> u8 {
+        match refusal {
             RowRefusal::Length => 1,
             RowRefusal::Kind => 11,
             RowRefusal::NoRow => 12,

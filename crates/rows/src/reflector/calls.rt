@@ -7,6 +7,7 @@ ghost use Rattle.std.proofs.Common.{arith, length-append, rules};
 ghost use Rattle.rows.specs.Fields.{signed_low_first};
 ghost use Rattle.rows.specs.ReflectorRows.{name_long, one_reflector};
 
+use crate::bytes::copy_row;
 use crate::limits::is_offset;
 use crate::reflector::Reflector;
 use crate::refusal::RowRefusal;
@@ -15,18 +16,13 @@ use crate::row::Row;
 fn is_letter(byte: u8) -> bool
     ensures { result ≡ is_letter byte }
 {
-    byte >= 0x20 && byte <= 0x7e
+    (0x20..=0x7e).contains(&byte)
 }
 
 fn is_name(name: [u8; 8]) -> bool
     ensures { result ≡ is_name name }
 {
-    for i in 0..8 {
-        if !is_letter(name[i]) {
-            return false;
-        }
-    }
-    true
+    name.iter().all(|byte| is_letter(*byte))
 }
 
 impl Reflector {
@@ -89,23 +85,19 @@ impl Row for Reflector {
     }
 
     fn write(&self, out: &mut [u8]) -> Result<(), RowRefusal> {
-        if out.len() != 11 {
-            return Err(RowRefusal::Length);
-        }
-        out.copy_from_slice(&self.encode());
-        Ok(())
+        copy_row(&self.encode(), out)
     }
 
     fn read(from: &[u8]) -> Result<Reflector, RowRefusal> {
-        if from.len() != 11 {
+        let [kind, name @ .., low, high] = from else {
             return Err(RowRefusal::Length);
-        }
-        if from[0] != 0x52 {
+        };
+        let Ok(name) = <[u8; 8]>::try_from(name) else {
+            return Err(RowRefusal::Length);
+        };
+        if *kind != 0x52 {
             return Err(RowRefusal::Kind);
         }
-        let mut name = [0; 8];
-        name.copy_from_slice(&from[1..9]);
-        let offset = i16::from_le_bytes([from[9], from[10]]);
-        Reflector::new(name, offset)
+        Reflector::new(name, i16::from_le_bytes([*low, *high]))
     }
 }

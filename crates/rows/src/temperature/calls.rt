@@ -7,6 +7,7 @@ ghost use Rattle.rows.specs.Temperatures.{is_temperature, numbers_of, temperatur
 ghost use Rattle.rows.specs.TemperatureRows.{one_temperature};
 ghost use Rattle.std.proofs.Common.{rules};
 
+use crate::bytes::copy_row;
 use crate::limits::is_offset;
 use crate::refusal::RowRefusal;
 use crate::row::Row;
@@ -15,7 +16,7 @@ use crate::temperature::Temperature;
 fn is_tenths(tenths: i16) -> bool
     ensures { result ≡ is_tenths tenths }
 {
-    tenths >= -400 && tenths <= 850
+    (-400..=850).contains(&tenths)
 }
 
 // The offset that has this sign byte and this magnitude. Zero is plus.
@@ -94,11 +95,7 @@ impl Row for Temperature {
     }
 
     fn write(&self, out: &mut [u8]) -> Result<(), RowRefusal> {
-        if out.len() != 6 {
-            return Err(RowRefusal::Length);
-        }
-        out.copy_from_slice(&self.encode());
-        Ok(())
+        copy_row(&self.encode(), out)
     }
 
     fn read(from: &[u8]) -> Result<Temperature, RowRefusal> {

@@ -1,25 +1,15 @@
-use Rattle.std.proofs.Common.{sym, ◌∙◌, arith, rules}
-use Rattle.numerals.proofs.Reading.{digit_refused, digit_read, digit_overflows, digits_end}
+use Rattle.std.proofs.Common.{◌+◌, ◌*◌, ◌^◌, ◌<◌, ◌≤◌, get_or, sym, ◌∙◌, arith}
+use Rattle.std.proofs.lemmas.Bool.Decides.{nat_tests}
+use Rattle.std.specs.Char.{digit_value}
+use Rattle.numerals.proofs.Reading.{digit_overflows}
 use Rattle.numerals.proofs.digits.append_digits.Goals as goal
 
-pub returns-then-digit-base : goal.returns-then-digit-base
-returns-then-digit-base c =
-    sym (digit_refused c.args.base c.loop-byte.sum c.args.digits.now c.loop-byte.byte-index _ (omega arith) c.digit_value-digit.ensures (omega arith))
-    ∙ c.loop-byte.invariant.0
-
-pub returns-in-None : goal.returns-in-None
-returns-in-None c =
-    sym (digit_overflows c.args.base c.loop-byte.sum c.args.digits.now c.loop-byte.byte-index _ (omega arith) c.digit_value-digit.ensures c.requires c.if-digit-base.false c.in-None.ensures)
-    ∙ c.loop-byte.invariant.0
-
-pub loop-byte-preserved : goal.loop-byte-preserved
-loop-byte-preserved c = (
-  sym (digit_read c.args.base c.loop-byte.sum c.args.digits.now c.loop-byte.byte-index _ (omega arith) c.digit_value-digit.ensures _ c.if-digit-base.false c.in-Some.ensures)
-      ∙ c.loop-byte.invariant.0,
-  search rules,
-)
-
-pub returns : goal.returns
-returns c =
-    sym (digits_end c.args.base c.loop-byte.sum c.args.digits.now c.loop-byte.byte-index (omega arith) c.loop-byte.invariant.1)
-    ∙ c.loop-byte.invariant.0
+pub returns-in_err-sum : goal.returns-in_err-sum
+returns-in_err-sum c =
+    let l = c.loop-byte in
+    let d = digit_value (get_or c.args.digits.now l.byte-index 0) in
+    let small : d < c.args.base = grind (arith, nat_tests) in
+    let large : 2 ^ 64 ≤ l.sum * c.args.base + d = grind (arith, nat_tests) in
+    c.from_residual-in_err-sum.ensures
+    ∙ sym (digit_overflows c.args.base l.sum c.args.digits.now l.byte-index (omega arith) (omega arith) small large)
+    ∙ l.invariant.0

@@ -1,20 +1,16 @@
-use Rattle.std.proofs.Common.{◌≡◌, true, false, eqb, get_or, sym, ◌∙◌, arith}
-use Rattle.std.proofs.lemmas.List.{at_drop_more, at_drop_all}
-use Rattle.std.proofs.lemmas.Bool.{eq-eqb, ne_eqb}
+use Rattle.std.proofs.Common.{ℕ, Bool, ◌&&◌, eqb, refl, ◌∙◌, rules, tests}
+use Rattle.std.proofs.lemmas.Iterator.{YieldsList-from_slice}
+use Rattle.std.proofs.lemmas.Iterator.Search.{all_from_yields_List}
+use Rattle.std.proofs.lemmas.List.Recursion.{same_from_clauses}
+use Rattle.std.specs.List.{list_all}
 use Rattle.numerals.specs.Fractions.{are_zeros}
 use Rattle.numerals.proofs.fixed.are_zeros.Goals as goal
 
-pub returns-then-digit-ne48 : goal.returns-then-digit-ne48
-returns-then-digit-ne48 c =
-    let e : eqb (get_or c.args.digits.now c.loop-digit.digit-index 0) 48 ≡ false = ne_eqb _ _ c.if-digit-ne48.true in
-    let m = at_drop_more are_zeros c.args.digits.now c.loop-digit.digit-index 0 (omega arith) in
-    sym (m ∙ rw e) ∙ c.loop-digit.invariant
-
-pub loop-digit-preserved : goal.loop-digit-preserved
-loop-digit-preserved c =
-    let e : eqb (get_or c.args.digits.now c.loop-digit.digit-index 0) 48 ≡ true = eq-eqb _ _ c.if-digit-ne48.false in
-    let m = at_drop_more are_zeros c.args.digits.now c.loop-digit.digit-index 0 (omega arith) in
-    sym (m ∙ rw e) ∙ c.loop-digit.invariant
+-- a byte is the digit 0
+abbrev is_zero : ℕ → Bool
+is_zero c = eqb c 48
 
 pub returns : goal.returns
-returns c = sym (at_drop_all are_zeros c.args.digits.now c.loop-digit.digit-index (omega arith)) ∙ c.loop-digit.invariant
+returns c =
+    all_from_yields_List is_zero _ _ c.all.result c.all.ensures.ran (YieldsList-from_slice c.args.digits.now cc) (λ x b q k. search (rules, tests))
+    ∙ same_from_clauses (list_all is_zero) are_zeros (λ c b. is_zero c && b) refl (λ _ _. refl) (λ _ _. refl) c.args.digits.now
