@@ -3,6 +3,13 @@
 use Rattle.std.specs.Prelude.{ℕ, ◌^◌, Bool, true, cond, ◌&&◌, List, [], ◌∷◌, Some, None, Option, nat_lt}
 use Rattle.std.specs.Str.Parse.{digits_value, digits_value_after}
 use Rattle.std.specs.Char.{digit_value}
+use Rattle.numerals.specs.declared.digits.Base.{Base}
+use Rattle.numerals.specs.declared.digits.Base.TheVariants.{Decimal, Hexadecimal}
+
+-- how many digits a base has
+abbrev pub radix_of : Base → ℕ
+radix_of Decimal = 10
+radix_of Hexadecimal = 16
 
 -- a byte is a digit of a base if its value is below the base
 abbrev pub is_digit : ℕ → ℕ → Bool

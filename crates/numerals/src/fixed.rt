@@ -3,7 +3,7 @@ ghost use Rattle.std.specs.Prelude.{◌≡◌, ℕ, ◌*◌, ◌^◌, ◌++◌, 
 ghost use Rattle.numerals.specs.Digits.{fitting, with_digits};
 ghost use Rattle.numerals.specs.Fractions.{are_zeros, is_exact, units_of, size_of, signed, fixed_of};
 
-use crate::digits::append_digits;
+use crate::digits::{Base, append_digits};
 
 // Whether every byte is the digit 0.
 fn are_zeros(digits: &[u8]) -> bool
@@ -24,7 +24,11 @@ fn point_in(text: &[u8]) -> Option<usize>
 fn read_joined(first: &[u8], second: &[u8]) -> Option<usize>
     ensures { result ≡ with_digits 10 0 (first.now ++ second.now) }
 {
-    append_digits(append_digits(0, 10, first)?, 10, second)
+    append_digits(
+        append_digits(0, Base::Decimal, first)?,
+        Base::Decimal,
+        second,
+    )
 }
 
 // A number with so many zeros after it, if that is below 2^31.
