@@ -1,7 +1,7 @@
 -- `counted` and `changed`: lengths, single bytes, and ranges side by side.
 use Rattle.std.proofs.Common.{◌≡◌, ℕ, ◌+◌, ◌<◌, ◌≤◌, min, cond, ◌⊎◌, List, length, get_or, sym, refl, ap, ◌∙◌, inl, inr, zero-add, arith}
-use Rattle.std.proofs.lemmas.List.FromFn.{length-map-range_with_len, get_or-map-range_with_len}
-use Rattle.std.proofs.lemmas.List.{ext_get_or, get_or_past}
+use Rattle.std.proofs.lemmas.List.FromFn.{length-map-range_with_len, get_or-map-range_with_len, fill_by_all}
+use Rattle.std.proofs.lemmas.List.{get_or_past}
 use Rattle.std.proofs.lemmas.Bool.{cases_lt}
 use Rattle.std.proofs.lemmas.Bool.Decides.{nat_tests}
 use Rattle.cells.specs.Bytes.{counted, changed, changed_at, within}
@@ -17,9 +17,8 @@ get_or-counted f n a h = get_or-map-range_with_len f 0 n a a 0 h (omega arith)
 
 -- a list is `counted f n` if it has n bytes and f a at each address a
 pub counted_all : (f : ℕ → ℕ) (n : ℕ) (xs : List ℕ) → length xs ≡ n → ((a : ℕ) → a < n → get_or xs a 0 ≡ f a) → xs ≡ counted f n
-counted_all f n xs l each =
-    ext_get_or 0 xs (counted f n) (l ∙ sym (length-counted f n))
-    (λ a h. let k : a < n = omega arith in each a k ∙ sym (get_or-counted f n a k))
+unfolding counted
+counted_all f n xs l each = fill_by_all f xs n 0 l each
 
 pub length-changed : (first len : ℕ) (g : ℕ → ℕ → ℕ) (xs : List ℕ) → length (changed first len g xs) ≡ length xs
 unfolding changed

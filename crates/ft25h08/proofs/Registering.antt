@@ -1,8 +1,8 @@
 -- One security register changes: what that makes of the 1,024 bytes.
-use Rattle.std.proofs.Common.{◌≡◌, ℕ, ◌+◌, ◌-◌, ◌*◌, ◌/◌, ◌%◌, ◌<◌, ◌≤◌, ltb, List, length, get_or, set, Some, sym, ap, ◌∙◌, inl, inr, arith}
+use Rattle.std.proofs.Common.{◌≡◌, ℕ, ◌+◌, ◌-◌, ◌*◌, ◌/◌, ◌%◌, ◌<◌, ◌≤◌, List, length, get_or, set, sym, ap, ◌∙◌, inl, inr, arith}
 use borrow.Rule.Slice.PartMut.{put_mid}
 use Rattle.std.proofs.lemmas.List.{get_or_default, get_or-set_same, get_or-set_other}
-use Rattle.std.proofs.lemmas.Bool.{cases_eq, cases_lt, cond-true, cond-false, lt-ltb, le-ltb}
+use Rattle.std.proofs.lemmas.Bool.{cases_eq, cases_lt}
 use Rattle.std.proofs.lemmas.Bool.Decides.{nat_tests}
 use Rattle.cells.specs.Bytes.{changed, changed_at}
 use Rattle.cells.proofs.Ranges.{length-counted, get_or-counted, get_or-changed, changed_all, changed_inside, changed_past, changed_join}
@@ -87,13 +87,8 @@ next_copied s bytes copied r n d four lt whole long is before =
 -- the byte by its register is the byte by its address
 pub security_byte_lem : (s : Security) (a : ℕ) → security_byte s a ≡ byte_at (security_of s) a
 security_byte_lem s a =
+    let l = length_security s in
     elim (cases_lt a 1024) [
-      | inl lt ↦
-          let e = get_or_security s a lt in
-          cond-true (ltb a 1024) _ _ (lt-ltb a 1024 lt)
-          ∙ ap Some (sym e)
-          ∙ sym (cond-true (ltb a (length (security_of s))) _ _ (lt-ltb a (length (security_of s)) (let l = length_security s in omega arith)))
-      | inr ge ↦
-          cond-false (ltb a 1024) _ _ (le-ltb a 1024 ge)
-          ∙ sym (cond-false (ltb a (length (security_of s))) _ _ (le-ltb a (length (security_of s)) (let l = length_security s in omega arith)))
+      | inl lt ↦ let e = get_or_security s a lt in grind (arith, nat_tests)
+      | inr ge ↦ grind (arith, nat_tests)
     ]

@@ -5,6 +5,7 @@ use Rattle.cells.specs.Bytes.{counted}
 use Rattle.ft25h08.specs.declared.register.Register.{Register}
 use Rattle.ft25h08.specs.declared.security.Security.{Security}
 
+-- stands where the list ends; every security address has its register before that
 abbrev pub no_register : Register
 no_register = record { bytes = replicate 256 255; whole = refl }
 

@@ -35,7 +35,7 @@ impl Activity {
         match self {
             Activity::Idle => Mode::Idle,
             Activity::Asleep => Mode::Asleep,
-            Activity::Changing { change: _, left: _ } => Mode::Busy,
+            Activity::Changing { .. } => Mode::Busy,
         }
     }
 }

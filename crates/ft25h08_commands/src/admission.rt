@@ -1,5 +1,5 @@
 // Whether a frame is accepted: the checks in their fixed order, of which the first to fail answers.
-ghost use Rattle.std.specs.Prelude.{◌≡◌, ℕ, ◌^◌, ◌<◌, ◌≤◌, length};
+ghost use Rattle.std.specs.Prelude.{◌≡◌, ℕ, ◌^◌, ◌<◌, ◌≤◌, length, MatchOption};
 ghost use Rattle.ft25h08_commands.specs.Frames.{among, change_codes, quad_codes, security_codes, status_codes, region_of, chip_codes};
 ghost use Rattle.ft25h08_commands.specs.Rules.{number_of, verdict, rules, is_asleep, is_busy, is_locked, touches_protected};
 
@@ -101,16 +101,17 @@ fn erases_chip(code: u8) -> bool
     matches!(code, 0x60 | 0xC7)
 }
 
-// How many array bytes, from a whole multiple of that number on, a code changes: a page, a sector or a block.
-fn region_of(code: u8) -> u32
-    ensures { result ≡ region_of code }
+// How many array bytes, from a whole multiple of that number on, a code changes, if it changes a region: a page, a
+// sector or a block.
+fn region_of(code: u8) -> Option<u32>
+    ensures { MatchOption result (region_of code ≡ 0) (λ len. (len ≡ region_of code) × (0 < len)) }
 {
     match code {
-        0x02 | 0x32 => 256,
-        0x20 => 4096,
-        0x52 => 32_768,
-        0xD8 => 65_536,
-        _ => 0,
+        0x02 | 0x32 => Some(256),
+        0x20 => Some(4096),
+        0x52 => Some(32_768),
+        0xD8 => Some(65_536),
+        _ => None,
     }
 }
 
@@ -131,10 +132,9 @@ fn touches_protected(conditions: Conditions, capacity: Capacity, code: u8, at: u
     if erases_chip(code) {
         return conditions.settings.protects_some();
     }
-    let len = region_of(code);
-    if len == 0 {
+    let Some(len) = region_of(code) else {
         return false;
-    }
+    };
     let address = at % capacity.bytes();
     any_protected(conditions.settings, address - address % len, len)
 }

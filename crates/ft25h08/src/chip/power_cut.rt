@@ -19,7 +19,7 @@ impl Ft25h08 {
         }
         match std::mem::replace(&mut self.activity, Activity::Idle) {
             Activity::Idle | Activity::Asleep => self.write_enabled = false,
-            Activity::Changing { change, left: _ } => self.interrupt(change, junk),
+            Activity::Changing { change, .. } => self.interrupt(change, junk),
         }
         Ok(())
     }
