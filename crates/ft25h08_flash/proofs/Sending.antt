@@ -1,4 +1,4 @@
--- Frames that an idle chip accepts, and what they do.
+-- What a write enable and a release from deep power-down do; a range inside another.
 use Rattle.std.proofs.Common.{◌≡◌, ℕ, ◌+◌, ◌≤◌, Bool, true, false, [], ◌∷◌, sym, refl, ap, ◌∙◌, subst, inl, inr, arith}
 use Rattle.std.proofs.lemmas.Bool.{true≢false, cases_Bool}
 use Rattle.ft25h08_commands.specs.Protection.{any_in}
@@ -14,25 +14,25 @@ use Rattle.ft25h08.specs.declared.activity.Activity.TheVariants.{Idle, Asleep, C
 as_known : (c : Chip) (a : Activity) → c.activity ≡ a → with_activity a c ≡ c
 as_known c a e = ap (λ (x : Activity). with_activity x c) (sym e)
 
+-- a write enable of an idle chip
 enabled_idle : (c : Chip) → frame_after (with_activity Idle c) (6 ∷ []) 0 1 ≡ with_enable true (with_activity Idle c)
 unfolding touches_protected any_in
 enabled_idle c = refl
 
--- a write enable
-pub enables : (c : Chip) (room : ℕ) → room ≡ 1 → c.activity ≡ Idle → frame_after c (6 ∷ []) 0 room ≡ with_enable true c
-enables c room one e =
-    ap (λ (n : ℕ). frame_after c (6 ∷ []) 0 n) one
-    ∙ subst (λ (x : Chip). frame_after x (6 ∷ []) 0 1 ≡ with_enable true x) (as_known c Idle e) (enabled_idle c)
+-- the same of a chip that is idle
+pub enables : (c : Chip) → c.activity ≡ Idle → frame_after c (6 ∷ []) 0 1 ≡ with_enable true c
+enables c e = subst (λ (x : Chip). frame_after x (6 ∷ []) 0 1 ≡ with_enable true x) (as_known c Idle e) (enabled_idle c)
 
+-- a release from deep power-down, by the activity
 woken : (a : Activity) (c : Chip) → is_changing a ≡ false → frame_after (with_activity a c) (171 ∷ []) 0 1 ≡ with_activity Idle (with_activity a c)
 unfolding touches_protected any_in
 woken Idle c h = refl
 woken Asleep c h = refl
 woken (Changing change left) c h = absurd (true≢false h)
 
--- a release from deep power-down
-pub wakes : (c : Chip) (room : ℕ) → room ≡ 1 → is_changing c.activity ≡ false → frame_after c (171 ∷ []) 0 room ≡ with_activity Idle c
-wakes c room one e = ap (λ (n : ℕ). frame_after c (171 ∷ []) 0 n) one ∙ woken c.activity c e
+-- the same of a chip
+pub wakes : (c : Chip) → is_changing c.activity ≡ false → frame_after c (171 ∷ []) 0 1 ≡ with_activity Idle c
+wakes c e = woken c.activity c e
 
 -- no address of a range inside another passes a test that none of the other passes
 pub none_inside : (f : ℕ → Bool) (first n at m : ℕ) → any_in f first n ≡ false → first ≤ at → at + m ≤ first + n → any_in f at m ≡ false
