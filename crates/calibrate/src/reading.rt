@@ -29,7 +29,7 @@ fn print_slot<R: Told + Drop>(
             println!(rt; "slot {slot}: {text}")?;
         }
         Err(refusal) => {
-            let number = refusal.number();
+            let number = u8::from(refusal);
             println!(rt; "slot {slot}: refused {number}")?;
         }
     }

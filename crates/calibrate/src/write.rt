@@ -23,7 +23,7 @@ pub(crate) fn write(
     match put(&mut image, at, bytes.as_slice(), &mut work) {
         Ok(cost) => save(rt, path, image, cost),
         Err(refusal) => {
-            let number = refusal.number();
+            let number = u8::from(refusal);
             Err(Complaint::Said(format!(in rt.alloc();
                 "refused {number}: {file:?} at {address:?} passes the end of {path:?}"
             )?))

@@ -1,17 +1,8 @@
--- Frames that an idle chip accepts, and what they do.
-<<<<<<< HEAD
-use Rattle.std.proofs.Common.{◌≡◌, ℕ, ◌+◌, ◌≤◌, Bool, true, false, cond, not, ◌&&◌, ◌||◌, eqb, ltb, leb, List, [], ◌∷◌, length, Ok, Err, Result, sym, refl, ap, ◌∙◌, subst, inl, inr, arith}
-use Rattle.std.proofs.lemmas.Bool.{cond-false, true≢false, cases_Bool}
-use Rattle.std.proofs.lemmas.Bool.Decides.{nat_tests}
-use Rattle.ft25h08_commands.specs.Frames.{address_of}
-use Rattle.cells.specs.Tests.{any_in}
-use Rattle.cells.proofs.Spans.{any_gives, any_from}
-=======
+-- What a write enable and a release from deep power-down do; a range inside another.
 use Rattle.std.proofs.Common.{◌≡◌, ℕ, ◌+◌, ◌≤◌, Bool, true, false, [], ◌∷◌, sym, refl, ap, ◌∙◌, subst, inl, inr, arith}
 use Rattle.std.proofs.lemmas.Bool.{true≢false, cases_Bool}
-use Rattle.ft25h08_commands.specs.Protection.{any_in}
-use Rattle.ft25h08_commands.proofs.Spans.{any_gives, any_from}
->>>>>>> 67d597e34ae6647b528ea0e2b0ecd438af80c8a7
+use Rattle.cells.specs.Tests.{any_in}
+use Rattle.cells.proofs.Spans.{any_gives, any_from}
 use Rattle.ft25h08_commands.specs.Rules.{touches_protected}
 use Rattle.ft25h08.specs.Activities.{is_changing}
 use Rattle.ft25h08.specs.Chip.{Chip, with_enable, with_activity}
@@ -23,25 +14,25 @@ use Rattle.ft25h08.specs.declared.activity.Activity.TheVariants.{Idle, Asleep, C
 as_known : (c : Chip) (a : Activity) → c.activity ≡ a → with_activity a c ≡ c
 as_known c a e = ap (λ (x : Activity). with_activity x c) (sym e)
 
+-- a write enable of an idle chip
 enabled_idle : (c : Chip) → frame_after (with_activity Idle c) (6 ∷ []) 0 1 ≡ with_enable true (with_activity Idle c)
 unfolding touches_protected any_in
 enabled_idle c = refl
 
--- a write enable
-pub enables : (c : Chip) (room : ℕ) → room ≡ 1 → c.activity ≡ Idle → frame_after c (6 ∷ []) 0 room ≡ with_enable true c
-enables c room one e =
-    ap (λ (n : ℕ). frame_after c (6 ∷ []) 0 n) one
-    ∙ subst (λ (x : Chip). frame_after x (6 ∷ []) 0 1 ≡ with_enable true x) (as_known c Idle e) (enabled_idle c)
+-- the same of a chip that is idle
+pub enables : (c : Chip) → c.activity ≡ Idle → frame_after c (6 ∷ []) 0 1 ≡ with_enable true c
+enables c e = subst (λ (x : Chip). frame_after x (6 ∷ []) 0 1 ≡ with_enable true x) (as_known c Idle e) (enabled_idle c)
 
+-- a release from deep power-down, by the activity
 woken : (a : Activity) (c : Chip) → is_changing a ≡ false → frame_after (with_activity a c) (171 ∷ []) 0 1 ≡ with_activity Idle (with_activity a c)
 unfolding touches_protected any_in
 woken Idle c h = refl
 woken Asleep c h = refl
 woken (Changing change left) c h = absurd (true≢false h)
 
--- a release from deep power-down
-pub wakes : (c : Chip) (room : ℕ) → room ≡ 1 → is_changing c.activity ≡ false → frame_after c (171 ∷ []) 0 room ≡ with_activity Idle c
-wakes c room one e = ap (λ (n : ℕ). frame_after c (171 ∷ []) 0 n) one ∙ woken c.activity c e
+-- the same of a chip
+pub wakes : (c : Chip) → is_changing c.activity ≡ false → frame_after c (171 ∷ []) 0 1 ≡ with_activity Idle c
+wakes c e = woken c.activity c e
 
 -- no address of a range inside another passes a test that none of the other passes
 pub none_inside : (f : ℕ → Bool) (first n at m : ℕ) → any_in f first n ≡ false → first ≤ at → at + m ≤ first + n → any_in f at m ≡ false
