@@ -11,8 +11,8 @@ use crate::piece::{Piece, Pieces};
 use crate::steps::program;
 use flash::NorFlash;
 
-// Whether the part of a stretch that begins at `pos` has to change. Before it the stretch holds these bytes, or none are
-// given if it has just been erased and is FF throughout.
+// Whether the part of a stretch that begins at `pos` has to change. `before` is what the stretch holds, and `None` if it
+// has just been erased and is FF throughout.
 fn part_differs(before: Option<&[u8]>, pos: usize, part: &[u8]) -> bool
     requires { KnownTo (pos + length part.now) before }
     ensures { result ≡ any_in (λ k. not (byte_before before.entry (pos + k) == slice_index part.now k)) 0 (length part.now) }

@@ -12,8 +12,15 @@ ghost use Rattle.book.specs.Slots.{slots_in, slot_at, place_of};
 use crate::area::Book;
 use crate::refusal::GetRefusal;
 use flash::{FlashRefusal, NorFlash, ReadNorFlash};
-use rows::{Row, RowRefusal};
+use rows::Row;
 use writer::{PutRefusal, WorkBuffer, put};
+
+// How many bytes a row of a kind has.
+fn row_len<R: Row>() -> usize
+    ensures { result ≡ 1 + R.Row.body }
+{
+    1 + R::body() as usize
+}
 
 // What the bytes of a slot read as.
 fn read_slot<R: Row>(slot: &[u8]) -> Result<Option<R>, GetRefusal>
@@ -24,48 +31,38 @@ fn read_slot<R: Row>(slot: &[u8]) -> Result<Option<R>, GetRefusal>
     if slot[0] == 0xff {
         return Ok(None);
     }
-    match R::read(slot) {
-        Ok(row) => Ok(Some(row)),
-        Err(RowRefusal::Length) => Err(GetRefusal::Range),
-        Err(RowRefusal::Kind) => Err(GetRefusal::Kind),
-        Err(RowRefusal::NoRow) => Err(GetRefusal::NoRow),
-    }
+    Ok(Some(R::read(slot)?))
 }
 
-// Gets what stands at an address, by way of a buffer as long as a row.
-fn get_at<R: Row, F: ReadNorFlash>(
-    flash: &F,
-    at: usize,
-    slot: &mut [u8],
-) -> Result<Option<R>, GetRefusal>
-    requires long { length slot.old ≡ 1 + R.Row.body }
+// Gets what stands at an address. The buffer is as long as a row of any kind may be: the kind is known by its type only.
+fn get_at<R: Row, F: ReadNorFlash>(flash: &F, at: usize) -> Result<Option<R>, GetRefusal>
     requires usable { R.Row.body < 255 }
     requires within { at + (1 + R.Row.body) ≤ length (F.ReadNorFlash.bytes flash.now) }
     ensures busy { F.ReadNorFlash.ready flash.now ≡ false → result ≡ Err Busy }
     ensures reads { F.ReadNorFlash.ready flash.now ≡ true → SlotReads R.Row.kind R.Row.bytes (take (1 + R.Row.body) (drop at (F.ReadNorFlash.bytes flash.now))) result }
 {
-    match flash.read(at, slot) {
-        Ok(()) => read_slot(slot),
-        Err(_) => Err(GetRefusal::Busy),
-    }
+    let mut bytes = [0; 255];
+    let slot = &mut bytes[..row_len::<R>()];
+    flash.read(at, slot).map_err(|_| GetRefusal::Busy)?;
+    read_slot(slot)
 }
 
-// Puts a row at an address, by way of a buffer as long as a row.
+// Puts a row at an address.
 fn put_at<R: Row, F: NorFlash>(
     flash: &mut F,
     at: usize,
     row: &R,
-    bytes: &mut [u8],
     work: &mut [u8],
 ) -> Result<(u32, u32, u32), PutRefusal>
-    requires long { length bytes.old ≡ 1 + R.Row.body }
-    requires usable { R.Row.body < 255 }
+    requires { R.Row.body < 255 }
     ensures answer { result ≡ put_answer at (R.Row.bytes row.now) (length work.old) (F.NorFlash.meaning flash.old) }
     ensures after { F.NorFlash.meaning flash.new ≡ after_put result at (R.Row.bytes row.now) (F.NorFlash.meaning flash.old) }
     ensures fewest { FewestErases result (F.NorFlash.meaning flash.old).bytes (F.NorFlash.meaning flash.new).bytes }
 {
-    let _ = row.write(bytes);
-    put(flash, at, bytes, work)
+    let mut bytes = [0; 255];
+    let slot = &mut bytes[..row_len::<R>()];
+    row.write(slot).unwrap();
+    put(flash, at, slot, work)
 }
 
 impl Book {
@@ -106,7 +103,7 @@ impl Book {
         if slot >= self.slots::<R>() {
             return None;
         }
-        let n = 1 + R::body() as usize;
+        let n = row_len::<R>();
         Some(self.start + slot * n)
     }
 
@@ -125,12 +122,8 @@ impl Book {
         ensures fewest { FewestErases result (F.NorFlash.meaning flash.old).bytes (F.NorFlash.meaning flash.new).bytes }
     {
         let guard = WorkBuffer { bytes: work };
-        let Some(at) = self.place::<R>(slot) else {
-            return Err(PutRefusal::Range);
-        };
-        let n = 1 + R::body() as usize;
-        let mut bytes = [0; 255];
-        put_at(flash, at, row, &mut bytes[0..n], guard.bytes)
+        let at = self.place::<R>(slot).ok_or(PutRefusal::Range)?;
+        put_at(flash, at, row, guard.bytes)
     }
 
     /// The row in a slot, or nothing if the slot is empty.
@@ -141,14 +134,10 @@ impl Book {
     ) -> Result<Option<R>, GetRefusal>
         ensures { Gets R.Row.kind R.Row.body R.Row.bytes self.now.start self.now.len slot (F.ReadNorFlash.bytes flash.now) (F.ReadNorFlash.ready flash.now) result }
     {
-        let Some(at) = self.place::<R>(slot) else {
-            return Err(GetRefusal::Range);
-        };
+        let at = self.place::<R>(slot).ok_or(GetRefusal::Range)?;
         if self.start + self.len > flash.capacity() {
             return Err(GetRefusal::Range);
         }
-        let n = 1 + R::body() as usize;
-        let mut bytes = [0; 255];
-        get_at(flash, at, &mut bytes[0..n])
+        get_at(flash, at)
     }
 }

@@ -6,11 +6,6 @@ use Rattle.book.proofs.area.Book.get.Goals as goal
 pub get_at-requires : goal.get_at-requires
 get_at-requires g c =
     let book = c.args.self.now in
-    let body = c.body.ensures in
-    let ends = place_ends book.start book.len g.R.Row.body c.args.slot c.in-Some.at c.in-Some.ensures in
+    let ends = place_ends book.start book.len g.R.Row.body c.args.slot c.in_ok-at.at (search rules) in
     let capacity = c.capacity.ensures in
-    record {
-      long = search rules;
-      usable = ends.0;
-      within = omega arith;
-    }
+    record { usable = ends.0; within = omega arith }
