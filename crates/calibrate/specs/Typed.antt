@@ -1,13 +1,9 @@
 -- The rows that typed texts name: exactly the numbers typed, or none.
-use Rattle.std.specs.Prelude.{ℕ, ◌-◌, Bool, cond, ◌&&◌, ◌||◌, List, ◌++◌, length, replicate, ℤ, pos, negsuc, Some, None, Option, ◌==◌, int_le, nat_le}
+use Rattle.std.specs.Prelude.{ℕ, ◌-◌, Bool, cond, ◌||◌, List, ◌++◌, length, replicate, ℤ, Some, None, Option, ◌==◌, nat_le}
 use Rattle.rows.specs.Reflectors.{is_reflector, parts_of}
 use Rattle.rows.specs.Temperatures.{is_temperature, numbers_of}
 use Rattle.rows.specs.declared.reflector.Reflector.{Reflector}
 use Rattle.rows.specs.declared.temperature.Temperature.{Temperature}
-
--- a number that fits 16 bits with a sign
-abbrev pub fits_short : ℤ → Bool
-fits_short z = int_le (negsuc 32767) z && int_le z (pos 32767)
 
 -- what is within its limits
 abbrev pub in_limits : {A : Type 0} → (A → Bool) → A → Option A

@@ -1,5 +1,5 @@
 // What went wrong, in one line for the user.
-use std::alloc::{AllocError, AllocFailed};
+use std::alloc::{AllocError, AllocFailed, Global};
 use std::{fmt, io};
 
 /// What went wrong, in one line for the user.
@@ -17,6 +17,14 @@ pub enum Complaint {
     NoMemory,
     /// standard output or the arguments failed
     System(io::Error),
+}
+
+impl Complaint {
+    /// A text of its own, if there is memory for it.
+    pub(crate) fn said(heap: Global, text: impl fmt::Display + Drop) -> Complaint {
+        let text: Result<String, AllocError> = text.to_string(heap);
+        text.map_or(Complaint::NoMemory, Complaint::Said)
+    }
 }
 
 impl From<AllocError> for Complaint {

@@ -9,8 +9,11 @@ use std::alloc::Global;
 /// An image file has at most so many bytes: 256 sectors of 4,096.
 pub(crate) const MOST: usize = 1_048_576;
 
-pub(crate) fn not_an_image(heap: Global, path: &str) -> Result<Complaint, Complaint> {
-    Ok(Complaint::Said(format!(in heap; "{path:?} is no image: it has not 4096 x 1 to 256 bytes")?))
+pub(crate) fn not_an_image(heap: Global, path: &str) -> Complaint {
+    Complaint::said(
+        heap,
+        format_args!("{path:?} is no image: it has not 4096 x 1 to 256 bytes"),
+    )
 }
 
 /// Reads an image file into an image in memory, no sector of which is protected.
@@ -18,10 +21,8 @@ pub(crate) fn open_image(rt: &HostRuntime, path: &str) -> Result<Image, Complain
     check_replaceable(rt, path)?;
     let bytes = read_at_most(rt, path, MOST)?;
     let marks = vec![in rt.alloc(); false; bytes.len() / 4096]?;
-    match Image::refusal(&bytes, &marks) {
-        Ok(()) => Ok(Image::new(bytes, marks)),
-        Err(_) => Err(not_an_image(rt.alloc(), path)?),
-    }
+    Image::refusal(&bytes, &marks).map_err(|_| not_an_image(rt.alloc(), path))?;
+    Ok(Image::new(bytes, marks))
 }
 
 // Whether a put of this cost has changed anything.

@@ -14,73 +14,64 @@ mod write;
 
 use complaint::Complaint;
 use help::print_help;
-use putting::{put_reflector, put_temperature};
+use putting::put;
 use reading::{get, list};
-use rows::{Reflector, Temperature};
+use rows::{Reflector, Row, Temperature};
 use std::env;
 use std::process::ExitCode;
 use story::tell_story;
+use told::Tell;
+use typed::Typed;
 use write::write;
 
-// The commands that read rows.
-fn run_reading(rt: &HostRuntime, command: &str, rest: &[String]) -> Result<(), Complaint> {
-    match rest {
-        [kind, image] if command == "list" => match kind.as_str() {
-            "temperature" => list::<Temperature>(rt, image.as_str()),
-            "reflector" => list::<Reflector>(rt, image.as_str()),
-            _ => Err(Complaint::Kind),
-        },
-        [kind, image, slot] if command == "get" => match kind.as_str() {
-            "temperature" => get::<Temperature>(rt, image.as_str(), slot.as_str()),
-            "reflector" => get::<Reflector>(rt, image.as_str(), slot.as_str()),
-            _ => Err(Complaint::Kind),
-        },
-        _ => Err(Complaint::Usage),
+// What is to be done with the rows of an image file.
+#[derive(Clone, Copy)]
+enum Task<'a> {
+    List,
+    Get(&'a str),
+    Put(&'a str, &'a str, &'a str),
+}
+
+// Does it with rows of one kind.
+fn run_rows<R: Row + Typed + Tell + Drop>(
+    rt: &HostRuntime,
+    image: &str,
+    task: Task<'_>,
+) -> Result<(), Complaint> {
+    match task {
+        Task::List => list::<R>(rt, image),
+        Task::Get(slot) => get::<R>(rt, image, slot),
+        Task::Put(slot, first, second) => put::<R>(rt, image, slot, first, second),
     }
 }
 
-// The commands that put something into an image file.
-fn run_writing(rt: &HostRuntime, command: &str, rest: &[String]) -> Result<(), Complaint> {
-    match rest {
-        [image, address, file] if command == "write" => {
-            write(rt, image.as_str(), address.as_str(), file.as_str())
-        }
-        [kind, image, slot, first, second] if command == "put" => match kind.as_str() {
-            "temperature" => put_temperature(
-                rt,
-                image.as_str(),
-                slot.as_str(),
-                first.as_str(),
-                second.as_str(),
-            ),
-            "reflector" => put_reflector(
-                rt,
-                image.as_str(),
-                slot.as_str(),
-                first.as_str(),
-                second.as_str(),
-            ),
-            _ => Err(Complaint::Kind),
-        },
-        _ => Err(Complaint::Usage),
+// Does it with rows of the kind that a word names.
+fn run_kind(rt: &HostRuntime, kind: &str, image: &str, task: Task<'_>) -> Result<(), Complaint> {
+    match kind {
+        "temperature" => run_rows::<Temperature>(rt, image, task),
+        "reflector" => run_rows::<Reflector>(rt, image, task),
+        _ => Err(Complaint::Kind),
     }
 }
 
 // Runs the command that the arguments name; without any it tells the story.
-fn run_words(rt: &HostRuntime, words: &[String]) -> Result<(), Complaint> {
-    let [command, rest @ ..] = words else {
-        return tell_story(rt);
-    };
-    match command.as_str() {
-        "list" | "get" => run_reading(rt, command.as_str(), rest),
-        "write" | "put" => run_writing(rt, command.as_str(), rest),
-        "help" if rest.is_empty() => print_help(rt),
+fn run_words(rt: &HostRuntime, words: &[&str]) -> Result<(), Complaint> {
+    match *words {
+        [] => tell_story(rt),
+        ["list", kind, image] => run_kind(rt, kind, image, Task::List),
+        ["get", kind, image, slot] => run_kind(rt, kind, image, Task::Get(slot)),
+        ["put", kind, image, slot, first, second] => {
+            run_kind(rt, kind, image, Task::Put(slot, first, second))
+        }
+        ["write", image, address, file] => write(rt, image, address, file),
+        ["help"] => print_help(rt),
         _ => Err(Complaint::Usage),
     }
 }
 
 fn run(rt: &HostRuntime) -> Result<(), Complaint> {
-    let words: Vec<String> = env::args(rt)?.skip(1).collect(rt.alloc())?;
+    let args: Vec<String> = env::args(rt)?.skip(1).collect(rt.alloc())?;
+    let words: Vec<&str> = args.iter().map(|word| word.as_str()).collect(rt.alloc())?;
     run_words(rt, words.as_slice())
 }
 

@@ -1,11 +1,12 @@
 // The story of a row that changes its sign, on a model of the FT25H08.
 use crate::complaint::Complaint;
-use crate::told::{Told, millimetres};
+use crate::told::{Millimetres, Told};
 use book::Book;
 use ft25h08::{Ft25h08, Ticks};
 use ft25h08_flash::Ft25h08Flash;
 use rows::{Row, Temperature};
-use std::alloc::{AllocError, Global};
+use std::alloc::Global;
+use std::fmt;
 
 // The rows that stand at first in slots 0, 1 and 2: tenths of a degree, hundredths of a millimetre.
 const FIRST: [(i16, i16); 3] = [(150, 240), (250, 110), (-101, -34)];
@@ -19,9 +20,17 @@ fn broken<T: Drop>(_cause: T) -> Complaint {
 
 // A row within its limits.
 fn row_of(numbers: (i16, i16)) -> Result<Temperature, Complaint> {
-    match Temperature::new(numbers.0, numbers.1) {
-        Ok(row) => Ok(row),
-        Err(refusal) => Err(broken(refusal)),
+    Temperature::new(numbers.0, numbers.1).map_err(broken)
+}
+
+// The bytes of a row, as they are printed.
+#[derive(Clone, Copy)]
+struct Hex([u8; 6]);
+
+impl fmt::Display for Hex {
+    fn fmt<W: fmt::Write>(&self, f: &mut fmt::Formatter<W>) -> fmt::Result {
+        let [a, b, c, d, e, g] = self.0;
+        write!(f, "{a:02x} {b:02x} {c:02x} {d:02x} {e:02x} {g:02x}")
     }
 }
 
@@ -35,31 +44,24 @@ fn bytes_of(row: &Temperature) -> [u8; 6] {
 // What programming new bytes over old ones leaves.
 fn programmed_over(old: [u8; 6], new: [u8; 6]) -> [u8; 6] {
     let mut left = old;
-    for i in 0..6 {
-        left[i] &= new[i];
+    for (byte, over) in left.iter_mut().zip(new) {
+        *byte &= over;
     }
     left
-}
-
-fn hex(heap: Global, bytes: [u8; 6]) -> Result<String, AllocError> {
-    let [a, b, c, d, e, f] = bytes;
-    format!(in heap; "{a:02x} {b:02x} {c:02x} {d:02x} {e:02x} {f:02x}")
 }
 
 // A new FT25H08, taken as a flash.
 fn new_flash(heap: Global) -> Result<Ft25h08Flash, Complaint> {
     let array = vec![in heap; 0xff; 1_048_576]?;
     let ticks = Ticks::bench();
-    match Ft25h08::birth_refusal(array.len(), ticks) {
-        Ok(()) => {
-            let chip = Ft25h08::new(array, ticks);
-            match Ft25h08Flash::refusal(&chip) {
-                Ok(()) => Ok(Ft25h08Flash::take(chip)),
-                Err(refusal) => Err(broken(refusal)),
-            }
-        }
-        Err(refusal) => Err(broken(refusal)),
-    }
+    let Ok(()) = Ft25h08::birth_refusal(array.len(), ticks) else {
+        return Err(Complaint::Story);
+    };
+    let chip = Ft25h08::new(array, ticks);
+    let Ok(()) = Ft25h08Flash::refusal(&chip) else {
+        return Err(Complaint::Story);
+    };
+    Ok(Ft25h08Flash::take(chip))
 }
 
 fn put(
@@ -69,39 +71,31 @@ fn put(
     row: &Temperature,
 ) -> Result<(u32, u32, u32), Complaint> {
     let mut work = [0xff; 4096];
-    match book.put_row(flash, slot, row, &mut work) {
-        Ok(cost) => Ok(cost),
-        Err(refusal) => Err(broken(refusal)),
-    }
+    book.put_row(flash, slot, row, &mut work).map_err(broken)
 }
 
 // The row that stands in a slot.
 fn row_in(book: &Book, flash: &Ft25h08Flash, slot: usize) -> Result<Temperature, Complaint> {
-    match book.get::<Temperature, Ft25h08Flash>(flash, slot) {
-        Ok(found) => match found {
-            Some(row) => Ok(row),
-            None => Err(Complaint::Story),
-        },
-        Err(refusal) => Err(broken(refusal)),
-    }
+    let found = book
+        .get::<Temperature, Ft25h08Flash>(flash, slot)
+        .map_err(broken)?;
+    found.ok_or(Complaint::Story)
 }
 
 // Prints the first slots as they are read from the flash.
 fn print_slots(rt: &HostRuntime, book: &Book, flash: &Ft25h08Flash) -> Result<(), Complaint> {
     for slot in 0..FIRST.len() {
         let row = row_in(book, flash, slot)?;
-        let text = row.told(rt.alloc())?;
-        let bytes = hex(rt.alloc(), bytes_of(&row))?;
-        println!(rt; "  slot {slot}: {text}   {bytes}")?;
+        println!(rt; "  slot {slot}: {}   {}", Told(&row), Hex(bytes_of(&row)))?;
     }
     Ok(())
 }
 
 // Why the new row cannot simply be programmed over the old one.
 fn print_reason(rt: &HostRuntime, old: &Temperature, new: &Temperature) -> Result<(), Complaint> {
-    let wanted = hex(rt.alloc(), bytes_of(new))?;
-    let left = hex(rt.alloc(), programmed_over(bytes_of(old), bytes_of(new)))?;
-    let error = millimetres(rt.alloc(), old.offset().wrapping_sub(new.offset()))?;
+    let wanted = Hex(bytes_of(new));
+    let left = Hex(programmed_over(bytes_of(old), bytes_of(new)));
+    let error = Millimetres(old.offset().wrapping_sub(new.offset()));
     println!(rt; "The row in slot 0 has the wrong sign. It should be     {wanted}")?;
     println!(rt; "A program only clears bits. Over the old row it leaves {left}:")?;
     println!(rt; "the sign byte stays, and every face is measured {error} off.")?;
@@ -111,12 +105,9 @@ fn print_reason(rt: &HostRuntime, old: &Temperature, new: &Temperature) -> Resul
 /// Tells how a row changes its sign.
 pub(crate) fn tell_story(rt: &HostRuntime) -> Result<(), Complaint> {
     let mut flash = new_flash(rt.alloc())?;
-    let book = match Book::new(&flash, 0, 4096) {
-        Ok(book) => book,
-        Err(refusal) => return Err(broken(refusal)),
-    };
-    for slot in 0..FIRST.len() {
-        let _ = put(&book, &mut flash, slot, &row_of(FIRST[slot])?)?;
+    let book = Book::new(&flash, 0, 4096).map_err(broken)?;
+    for (slot, numbers) in FIRST.iter().enumerate() {
+        let _ = put(&book, &mut flash, slot, &row_of(*numbers)?)?;
     }
     println!(rt; "An FT25H08 keeps temperature rows in its first sector:")?;
     print_slots(rt, &book, &flash)?;

@@ -1,45 +1,63 @@
 // Rows as they are printed.
 use rows::{Reflector, Temperature};
-use std::alloc::{AllocError, Global};
+use std::fmt;
 
 /// A row that can be printed.
-pub trait Told {
-    fn told(&self, heap: Global) -> Result<String, AllocError>;
+pub trait Tell {
+    fn tell<W: fmt::Write>(&self, f: &mut fmt::Formatter<W>) -> fmt::Result;
 }
 
-// Hundredths of a millimetre: always with a sign, and two decimals.
-pub(crate) fn millimetres(heap: Global, hundredths: i16) -> Result<String, AllocError> {
-    let sign = if hundredths < 0 { '-' } else { '+' };
-    let size = hundredths.unsigned_abs();
-    let whole = size / 100;
-    let rest = size % 100;
-    format!(in heap; "{sign}{whole}.{rest:02} mm")
-}
+/// A row, to be printed.
+#[derive(Drop)]
+pub(crate) struct Told<'a, R>(pub(crate) &'a R);
 
-// Tenths of a degree Celsius, with one decimal.
-fn degrees(heap: Global, tenths: i16) -> Result<String, AllocError> {
-    let sign = if tenths < 0 { "-" } else { "" };
-    let size = tenths.unsigned_abs();
-    let whole = size / 10;
-    let rest = size % 10;
-    format!(in heap; "{sign}{whole}.{rest} C")
-}
-
-impl Told for Temperature {
-    fn told(&self, heap: Global) -> Result<String, AllocError> {
-        let at = degrees(heap, self.tenths())?;
-        let offset = millimetres(heap, self.offset())?;
-        format!(in heap; "{at} {offset}")
+impl<R: Tell> fmt::Display for Told<'_, R> {
+    fn fmt<W: fmt::Write>(&self, f: &mut fmt::Formatter<W>) -> fmt::Result {
+        self.0.tell(f)
     }
 }
 
-impl Told for Reflector {
-    fn told(&self, heap: Global) -> Result<String, AllocError> {
-        let mut text = String::from_str(heap, "\"")?;
+/// Hundredths of a millimetre: always with a sign, and two decimals.
+#[derive(Clone, Copy)]
+pub(crate) struct Millimetres(pub(crate) i16);
+
+impl fmt::Display for Millimetres {
+    fn fmt<W: fmt::Write>(&self, f: &mut fmt::Formatter<W>) -> fmt::Result {
+        let sign = if self.0 < 0 { '-' } else { '+' };
+        let size = self.0.unsigned_abs();
+        write!(f, "{sign}{}.{:02} mm", size / 100, size % 100)
+    }
+}
+
+// Tenths of a degree Celsius, with one decimal.
+#[derive(Clone, Copy)]
+struct Degrees(i16);
+
+impl fmt::Display for Degrees {
+    fn fmt<W: fmt::Write>(&self, f: &mut fmt::Formatter<W>) -> fmt::Result {
+        let sign = if self.0 < 0 { "-" } else { "" };
+        let size = self.0.unsigned_abs();
+        write!(f, "{sign}{}.{} C", size / 10, size % 10)
+    }
+}
+
+impl Tell for Temperature {
+    fn tell<W: fmt::Write>(&self, f: &mut fmt::Formatter<W>) -> fmt::Result {
+        write!(
+            f,
+            "{} {}",
+            Degrees(self.tenths()),
+            Millimetres(self.offset())
+        )
+    }
+}
+
+impl Tell for Reflector {
+    fn tell<W: fmt::Write>(&self, f: &mut fmt::Formatter<W>) -> fmt::Result {
+        write!(f, "\"")?;
         for byte in self.name() {
-            text.push(char::from(byte))?;
+            write!(f, "{}", char::from(byte))?;
         }
-        let offset = millimetres(heap, self.offset())?;
-        format!(in heap; "{text}\" {offset}")
+        write!(f, "\" {}", Millimetres(self.offset()))
     }
 }

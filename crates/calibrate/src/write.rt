@@ -12,21 +12,21 @@ pub(crate) fn write(
     address: &str,
     file: &str,
 ) -> Result<(), Complaint> {
-    let Some(at) = read_address(address.as_bytes()) else {
-        return Err(Complaint::Said(format!(in rt.alloc();
-            "{address:?} is no address: decimal digits, or hexadecimal ones after 0x"
-        )?));
-    };
+    let at = read_address(address.as_bytes()).ok_or_else(|| {
+        Complaint::said(
+            rt.alloc(),
+            format_args!("{address:?} is no address: decimal digits, or hexadecimal ones after 0x"),
+        )
+    })?;
     let mut image = open_image(rt, path)?;
     let bytes = read_at_most(rt, file, MOST)?;
     let mut work = [0xff; 4096];
-    match put(&mut image, at, bytes.as_slice(), &mut work) {
-        Ok(cost) => save(rt, path, image, cost),
-        Err(refusal) => {
-            let number = u8::from(refusal);
-            Err(Complaint::Said(format!(in rt.alloc();
-                "refused {number}: {file:?} at {address:?} passes the end of {path:?}"
-            )?))
-        }
-    }
+    let cost = put(&mut image, at, bytes.as_slice(), &mut work).map_err(|refusal| {
+        let number = u8::from(refusal);
+        Complaint::said(
+            rt.alloc(),
+            format_args!("refused {number}: {file:?} at {address:?} passes the end of {path:?}"),
+        )
+    })?;
+    save(rt, path, image, cost)
 }
