@@ -7,7 +7,7 @@ ghost use Rattle.writer.specs.Put.{is_locked};
 
 use crate::compare::any_differs;
 use crate::piece::{Piece, Pieces};
-use crate::steps::{is_marked, read_into};
+use crate::steps::{is_marked, read_old};
 use flash::NorFlash;
 
 // Whether bytes that lie in one sector would change it though it is protected. A sector that is not protected is not read.
@@ -18,8 +18,7 @@ fn is_locked<F: NorFlash>(flash: &F, piece: Piece<'_, 4096>, work: &mut [u8; 409
     if !is_marked(flash, piece.sector()) {
         return false;
     }
-    let old = &mut work[..piece.bytes.len()];
-    read_into(flash, piece.at, old);
+    let old = read_old(flash, piece, work);
     any_differs(old, piece.bytes)
 }
 

@@ -7,7 +7,7 @@ ghost use Rattle.writer.specs.Put.{Made, is_locked};
 use crate::compare::any_rises;
 use crate::pages::program_pages;
 use crate::piece::Piece;
-use crate::steps::{erase, is_marked, read_into};
+use crate::steps::{erase, is_marked, read_into, read_old};
 use flash::NorFlash;
 
 // Makes the work buffer what the sector is to hold: the bytes at their place, and around them what stands.
@@ -56,8 +56,7 @@ pub(crate) fn put_in_sector<F: NorFlash>(
     if is_marked(flash, piece.sector()) {
         return (0, 0, 0);
     }
-    let old = &mut work[..piece.bytes.len()];
-    read_into(flash, piece.at, old);
+    let old = read_old(flash, piece, work);
     if !any_rises(old, piece.bytes) {
         let (programs, ticks) = program_pages(flash, piece, Some(old));
         return (programs, 0, ticks);

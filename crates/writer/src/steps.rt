@@ -7,6 +7,7 @@ ghost use Rattle.writer.specs.Needed.{Falls, placed};
 ghost use Rattle.writer.specs.Pieces.{Fits};
 ghost use Rattle.writer.specs.Put.{holding};
 
+use crate::piece::Piece;
 use flash::{NorFlash, ReadNorFlash, erase_and_wait, program_and_wait};
 
 // Reads from an address on.
@@ -15,6 +16,20 @@ pub(crate) fn read_into<F: NorFlash>(flash: &F, at: usize, out: &mut [u8])
     ensures { out.new ≡ take (length out.old) (drop at (F.NorFlash.meaning flash.now).bytes) }
 {
     let _ = flash.read(at, out);
+}
+
+// Reads what stands where a piece is to stand, into the front of the work buffer.
+pub(crate) fn read_old<'w, F: NorFlash>(
+    flash: &F,
+    piece: Piece<'_, 4096>,
+    work: &'w mut [u8; 4096],
+) -> &'w [u8]
+    requires { Fits piece.at (length piece.bytes.now) (F.NorFlash.meaning flash.now) }
+    ensures { result.now ≡ take (length piece.entry.bytes.now) (drop piece.entry.at (F.NorFlash.meaning flash.now).bytes) }
+{
+    let old = &mut work[..piece.bytes.len()];
+    read_into(flash, piece.at, old);
+    old
 }
 
 // Whether a sector is protected.

@@ -1,5 +1,4 @@
-use Rattle.std.proofs.Common.{◌≡◌, ℕ, ◌/◌, Bool, false, ◌&&◌, length, get_or, take, drop, sym, ap, ◌∙◌, arith}
-use Rattle.std.proofs.lemmas.List.{length-take-le}
+use Rattle.std.proofs.Common.{◌≡◌, ℕ, ◌/◌, Bool, false, ◌&&◌, get_or, sym, ap, ◌∙◌}
 use Rattle.writer.specs.Needed.{placed, is_touched}
 use Rattle.writer.proofs.Sectors.{in_sector, read_rises, kept_falls, made_nothing}
 use Rattle.writer.proofs.sector.put_in_sector.Goals as goal
@@ -21,9 +20,7 @@ program_pages-programs-requires-clause-falls g c =
     let at = c.args.piece.at in
     let bytes = c.args.piece.bytes.now in
     let fits = c.args.piece.inside in
-    let n : length (take (length bytes) c.args.work.now) ≡ length bytes = length-take-le (length bytes) c.args.work.now (omega arith) in
-    let is = c.read_into.ensures ∙ ap (λ (k : ℕ). take k (drop at old)) n in
-    kept_falls (at / 4096) old (placed at bytes old) (in_sector at bytes old fits) (sym (c.if-not-any_rises.ensures ∙ read_rises at bytes old c.read_into.new.out is fits c.requires.fits.within))
+    kept_falls (at / 4096) old (placed at bytes old) (in_sector at bytes old fits) (sym (c.if-not-any_rises.ensures ∙ read_rises at bytes old c.read_old-old.result.now c.read_old-old.ensures fits c.requires.fits.within))
 
 pub rewrite-requires-clause-rises : goal.rewrite-requires-clause-rises
 rewrite-requires-clause-rises g c =
@@ -31,6 +28,4 @@ rewrite-requires-clause-rises g c =
     let at = c.args.piece.at in
     let bytes = c.args.piece.bytes.now in
     let fits = c.args.piece.inside in
-    let n : length (take (length bytes) c.args.work.now) ≡ length bytes = length-take-le (length bytes) c.args.work.now (omega arith) in
-    let is = c.read_into.ensures ∙ ap (λ (k : ℕ). take k (drop at old)) n in
-    sym (c.if-not-any_rises.ensures ∙ read_rises at bytes old c.read_into.new.out is fits c.requires.fits.within)
+    sym (c.if-not-any_rises.ensures ∙ read_rises at bytes old c.read_old-old.result.now c.read_old-old.ensures fits c.requires.fits.within)
