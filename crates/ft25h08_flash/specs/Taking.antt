@@ -1,11 +1,12 @@
 -- A chip as a flash: its marks, what always holds of it, and what a tick makes of it.
-use Rattle.std.specs.Prelude.{◌≡◌, ℕ, ◌-◌, ◌/◌, ◌<◌, Bool, true, false, cond, List, length, ◌==◌, nat_lt, slice_index_or, refl}
+use Rattle.std.specs.Prelude.{◌≡◌, ℕ, ◌-◌, ◌/◌, ◌<◌, ◌≤◌, Bool, true, false, cond, List, length, Ok, Err, ◌==◌, nat_lt, slice_index_or, refl}
 use Rattle.std.proofs.Common.{sym, ap, ◌∙◌, arith}
 use Rattle.std.proofs.lemmas.List.FromFn.{length-map-range_with_len, get_or-map-range_with_len}
-use Rattle.std.proofs.lemmas.Bool.{and_parts, ltb-true, eqb-true, true≢false, cond-false}
+use Rattle.std.proofs.lemmas.Bool.{and_parts, ltb-true, eqb-true, true≢false, cond-true, cond-false, lt-ltb, le-ltb}
 use Rattle.cells.specs.Changes.{programmed, erased}
 use Rattle.cells.proofs.Ranges.{length-changed}
 use Rattle.flash.specs.Meaning.{Sound, after_tick}
+use Rattle.flash.specs.declared.refusal.FlashRefusal.TheVariants.{Range}
 use Rattle.ft25h08_commands.specs.Sizes.{is_capacity}
 use Rattle.ft25h08_commands.specs.declared.settings.Settings.{Settings}
 use Rattle.ft25h08_commands.proofs.Sizing.{capacity_some, capacity_most, capacity_whole}
@@ -117,3 +118,16 @@ idle_ready (Changing change left) t h =
     let some = ltb-true 0 left (and_parts (nat_lt 0 left) _ (and_parts (of_array change) _ t).1).0 in
     let none = eqb-true left 0 h in
     absurd (omega arith)
+
+-- Whether a sector has a mark, and so what the question for it answers. `is_protected` is proved without these four.
+pub has_mark : (s : Settings) (size sector : ℕ) → sector < size / 4096 → nat_lt sector (length (marks_of s size)) ≡ true
+has_mark s size sector h = let l = length_marks s size in lt-ltb sector (length (marks_of s size)) (omega arith)
+
+pub has_none : (s : Settings) (size sector : ℕ) → size / 4096 ≤ sector → nat_lt sector (length (marks_of s size)) ≡ false
+has_none s size sector h = let l = length_marks s size in le-ltb sector (length (marks_of s size)) (omega arith)
+
+pub mark_told : (s : Settings) (size sector : ℕ) (r : Bool) → sector < size / 4096 → r ≡ sector_mark s sector → Ok r ≡ cond (nat_lt sector (length (marks_of s size))) (Ok (slice_index_or (marks_of s size) sector false)) (Err Range)
+mark_told s size sector r h e = ap Ok (e ∙ sym (get_or_marks s size sector h)) ∙ sym (cond-true (nat_lt sector (length (marks_of s size))) _ (Err Range) (has_mark s size sector h))
+
+pub mark_refused : (s : Settings) (size sector : ℕ) → size / 4096 ≤ sector → Err Range ≡ cond (nat_lt sector (length (marks_of s size))) (Ok (slice_index_or (marks_of s size) sector false)) (Err Range)
+mark_refused s size sector h = sym (cond-false (nat_lt sector (length (marks_of s size))) (Ok (slice_index_or (marks_of s size) sector false)) (Err Range) (has_none s size sector h))

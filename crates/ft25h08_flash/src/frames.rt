@@ -1,5 +1,5 @@
 // The frames that a flash sends to its chip.
-ghost use Rattle.std.specs.Prelude.{◌≡◌, ◌/◌, ◌%◌, ◌<◌, ◌≤◌, true, false, [], ◌∷◌, length};
+ghost use Rattle.std.specs.Prelude.{◌≡◌, ◌/◌, ◌%◌, ◌≤◌, true, false, [], ◌∷◌, length};
 ghost use Rattle.ft25h08.specs.Accepted.{starts};
 ghost use Rattle.ft25h08.specs.Chip.{with_enable, with_activity, conditions_of};
 ghost use Rattle.ft25h08.specs.Queries.{busy_in};
@@ -8,6 +8,7 @@ ghost use Rattle.ft25h08.specs.declared.activity.Activity.TheVariants.{Idle};
 ghost use Rattle.ft25h08_commands.specs.Rules.{touches_protected};
 ghost use Rattle.ft25h08_flash.specs.ChipFlash.{page_at, sector_at};
 
+use crate::address::Address;
 use arrayvec::ArrayVec;
 use ft25h08::Ft25h08;
 
@@ -28,46 +29,42 @@ pub(crate) fn enable(chip: &mut Ft25h08)
 }
 
 // A code and an address, of which the high byte comes first.
-fn header(code: u8, at: usize) -> [u8; 4]
-    requires { at < 16777216 }
-    ensures { result ≡ code ∷ at / 65536 ∷ at / 256 % 256 ∷ at % 256 ∷ [] }
+fn header(code: u8, address: Address) -> [u8; 4]
+    ensures { result ≡ code ∷ address.at / 65536 ∷ address.at / 256 % 256 ∷ address.at % 256 ∷ [] }
 {
-    let [_, high, middle, low] = (at as u32).to_be_bytes();
+    let [_, high, middle, low] = (address.at as u32).to_be_bytes();
     [code, high, middle, low]
 }
 
 // The frame of a page program.
-fn program_frame(at: usize, new: &[u8]) -> ArrayVec<u8, 260>
-    requires few { length new.now ≤ 256 }
-    requires low { at < 16777216 }
-    ensures { result.items ≡ 2 ∷ at / 65536 ∷ at / 256 % 256 ∷ at % 256 ∷ new.now }
+fn program_frame(address: Address, new: &[u8]) -> ArrayVec<u8, 260>
+    requires { length new.now ≤ 256 }
+    ensures { result.items ≡ 2 ∷ address.at / 65536 ∷ address.at / 256 % 256 ∷ address.at % 256 ∷ new.now }
 {
     let mut frame = ArrayVec::new();
-    frame.try_extend_from_slice(&header(0x02, at)).unwrap();
+    frame.try_extend_from_slice(&header(0x02, address)).unwrap();
     frame.try_extend_from_slice(new).unwrap();
     frame
 }
 
 // Starts a page program.
-pub(crate) fn start_program(chip: &mut Ft25h08, at: usize, new: &[u8])
+pub(crate) fn start_program(chip: &mut Ft25h08, address: Address, new: &[u8])
     requires idle { (chip_of chip.old).activity ≡ Idle }
     requires enabled { (chip_of chip.old).enabled ≡ true }
     requires some { 1 ≤ length new.now }
     requires few { length new.now ≤ 256 }
-    requires low { at < 16777216 }
-    requires free { touches_protected (conditions_of (chip_of chip.old)) (length (chip_of chip.old).array) 2 at ≡ false }
-    ensures { chip_of chip.new ≡ starts (page_at at new.now (chip_of chip.old)) (chip_of chip.old).ticks.program (chip_of chip.old) }
+    requires free { touches_protected (conditions_of (chip_of chip.old)) (length (chip_of chip.old).array) 2 address.at ≡ false }
+    ensures { chip_of chip.new ≡ starts (page_at address.at new.now (chip_of chip.old)) (chip_of chip.old).ticks.program (chip_of chip.old) }
 {
-    let _ = chip.frame(&program_frame(at, new), 0, &mut [0; 260]);
+    let _ = chip.frame(&program_frame(address, new), 0, &mut [0; 260]);
 }
 
 // Starts a sector erase.
-pub(crate) fn start_erase(chip: &mut Ft25h08, at: usize)
+pub(crate) fn start_erase(chip: &mut Ft25h08, address: Address)
     requires idle { (chip_of chip.old).activity ≡ Idle }
     requires enabled { (chip_of chip.old).enabled ≡ true }
-    requires low { at < 16777216 }
-    requires free { touches_protected (conditions_of (chip_of chip.old)) (length (chip_of chip.old).array) 32 at ≡ false }
-    ensures { chip_of chip.new ≡ starts (sector_at at (chip_of chip.old)) (chip_of chip.old).ticks.erase_sector (chip_of chip.old) }
+    requires free { touches_protected (conditions_of (chip_of chip.old)) (length (chip_of chip.old).array) 32 address.at ≡ false }
+    ensures { chip_of chip.new ≡ starts (sector_at address.at (chip_of chip.old)) (chip_of chip.old).ticks.erase_sector (chip_of chip.old) }
 {
-    let _ = chip.frame(&header(0x20, at), 0, &mut [0; 4]);
+    let _ = chip.frame(&header(0x20, address), 0, &mut [0; 4]);
 }

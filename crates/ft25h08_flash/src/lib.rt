@@ -2,6 +2,7 @@
 //! of the chip holds here too.
 #![tactic(auto)]
 
+mod address;
 mod frames;
 mod taken;
 

@@ -12,6 +12,7 @@ ghost use Rattle.ft25h08_flash.specs.Taken.{flash_meaning, taken_most, taken_who
 ghost use Rattle.ft25h08.proofs.Counting.{each_count};
 ghost use Rattle.ft25h08_flash.specs.Taking;
 
+use crate::address::Address;
 use crate::frames::{enable, start_erase, start_program, wake};
 use crate::taken::Ft25h08Flash;
 use flash::{
@@ -87,7 +88,7 @@ impl Ft25h08Flash {
         let cells = self.chip.array();
         let _ = cells.len();
         enable(&mut self.chip);
-        start_program(&mut self.chip, at, new);
+        start_program(&mut self.chip, Address { at }, new);
         self.tallies.count_program();
         InProgress::started()
     }
@@ -101,7 +102,12 @@ impl Ft25h08Flash {
         ensures after { flash_meaning self.new ≡ erase_started sector (flash_meaning self.old) }
     {
         enable(&mut self.chip);
-        start_erase(&mut self.chip, sector * 4096);
+        start_erase(
+            &mut self.chip,
+            Address {
+                at: sector * 4096,
+            },
+        );
         self.tallies.count_erase();
         InProgress::started()
     }

@@ -11,8 +11,8 @@ use Rattle.ft25h08_flash.proofs.taken.Ft25h08Flash.send_erase.Goals as goal
 pub overflow_mul-sector : goal.overflow_mul-sector
 overflow_mul-sector c = omega (arith, sector_inside c.args.self.now c.args.sector c.requires.place, taken_most c.args.self.now)
 
-pub start_erase-requires-clause-low : goal.start_erase-requires-clause-low
-start_erase-requires-clause-low c = omega (arith, sector_inside c.args.self.now c.args.sector c.requires.place, taken_most c.args.self.now)
+pub invariant_of-start_erase : goal.invariant_of-start_erase
+invariant_of-start_erase c = omega (arith, sector_inside c.args.self.now c.args.sector c.requires.place, taken_most c.args.self.now)
 
 pub start_erase-requires-clause-free : goal.start_erase-requires-clause-free
 start_erase-requires-clause-free c =
