@@ -1,6 +1,6 @@
 // Whether a frame is accepted: the checks in their fixed order, of which the first to fail answers.
 ghost use Rattle.std.specs.Prelude.{◌≡◌, ℕ, ◌^◌, ◌<◌, ◌≤◌, length, MatchOption};
-ghost use Rattle.ft25h08_commands.specs.Frames.{among, change_codes, quad_codes, security_codes, status_codes, region_of, chip_codes};
+ghost use Rattle.ft25h08_commands.specs.Frames.{among, region_of};
 ghost use Rattle.ft25h08_commands.specs.Rules.{number_of, verdict, rules, is_asleep, is_busy, is_locked, touches_protected};
 
 use crate::capacity::Capacity;
@@ -68,37 +68,26 @@ impl Mode {
     }
 }
 
-fn starts_change(code: u8) -> bool
-    ensures { result ≡ among code change_codes }
-{
-    matches!(
-        code,
-        0x01 | 0x02 | 0x32 | 0x20 | 0x52 | 0xD8 | 0x60 | 0xC7 | 0x42 | 0x44
-    )
-}
+// The codes that start a change.
+const CHANGE_CODES: [u8; 10] = [0x01, 0x02, 0x32, 0x20, 0x52, 0xD8, 0x60, 0xC7, 0x42, 0x44];
 
-fn uses_four_lines(code: u8) -> bool
-    ensures { result ≡ among code quad_codes }
-{
-    matches!(code, 0x6B | 0x32)
-}
+// The codes that use all four lines.
+const QUAD_CODES: [u8; 2] = [0x6B, 0x32];
 
-fn addresses_security(code: u8) -> bool
-    ensures { result ≡ among code security_codes }
-{
-    matches!(code, 0x42 | 0x48)
-}
+// The codes whose address is one of the security registers'.
+const SECURITY_CODES: [u8; 2] = [0x42, 0x48];
 
-fn reads_status(code: u8) -> bool
-    ensures { result ≡ among code status_codes }
-{
-    matches!(code, 0x05 | 0x35)
-}
+// The codes that show the status.
+const STATUS_CODES: [u8; 2] = [0x05, 0x35];
 
-fn erases_chip(code: u8) -> bool
-    ensures { result ≡ among code chip_codes }
+// The codes that erase the whole array.
+const CHIP_CODES: [u8; 2] = [0x60, 0xC7];
+
+// Whether a code is one of these.
+fn is_among(code: u8, codes: &[u8]) -> bool
+    ensures { result ≡ among code codes.now }
 {
-    matches!(code, 0x60 | 0xC7)
+    codes.contains(&code)
 }
 
 // How many array bytes, from a whole multiple of that number on, a code changes, if it changes a region: a page, a
@@ -129,7 +118,7 @@ fn is_locked(conditions: Conditions, code: u8) -> bool
 fn touches_protected(conditions: Conditions, capacity: Capacity, code: u8, at: u32) -> bool
     ensures { result ≡ touches_protected conditions capacity.bytes code at }
 {
-    if erases_chip(code) {
+    if is_among(code, &CHIP_CODES) {
         return conditions.settings.protects_some();
     }
     let Some(len) = region_of(code) else {
@@ -157,11 +146,15 @@ pub fn admit(
         _ if n == 0 => Err(FrameRefusal::Shape),
         _ if conditions.mode.is_asleep() && code != 0xAB => Err(FrameRefusal::Asleep),
         None => Err(FrameRefusal::Unlisted),
-        _ if conditions.mode.is_busy() && !reads_status(code) => Err(FrameRefusal::Busy),
+        _ if conditions.mode.is_busy() && !is_among(code, &STATUS_CODES) => Err(FrameRefusal::Busy),
         Some(shape) if !shape.fits(n, odd) => Err(FrameRefusal::Shape),
-        _ if starts_change(code) && !conditions.write_enabled => Err(FrameRefusal::NotEnabled),
-        _ if uses_four_lines(code) && !conditions.settings.qe => Err(FrameRefusal::QuadDisabled),
-        _ if addresses_security(code) && at > 0x3FF => Err(FrameRefusal::NoSuchRegister),
+        _ if is_among(code, &CHANGE_CODES) && !conditions.write_enabled => Err(
+            FrameRefusal::NotEnabled,
+        ),
+        _ if is_among(code, &QUAD_CODES) && !conditions.settings.qe => Err(
+            FrameRefusal::QuadDisabled,
+        ),
+        _ if is_among(code, &SECURITY_CODES) && at > 0x3FF => Err(FrameRefusal::NoSuchRegister),
         _ if touches_protected(conditions, capacity, code, at) => Err(FrameRefusal::Protected),
         _ if is_locked(conditions, code) => Err(FrameRefusal::Locked),
         _ => Ok(()),

@@ -1,8 +1,7 @@
--- What a write enable and a release from deep power-down do; a range inside another.
-use Rattle.std.proofs.Common.{◌≡◌, ℕ, ◌+◌, ◌≤◌, Bool, true, false, [], ◌∷◌, sym, refl, ap, ◌∙◌, subst, inl, inr, arith}
-use Rattle.std.proofs.lemmas.Bool.{true≢false, cases_Bool}
+-- What a write enable and a release from deep power-down do.
+use Rattle.std.proofs.Common.{◌≡◌, true, false, [], ◌∷◌, sym, refl, ap, subst}
+use Rattle.std.proofs.lemmas.Bool.{true≢false}
 use Rattle.cells.specs.Tests.{any_in}
-use Rattle.cells.proofs.Spans.{any_gives, any_from}
 use Rattle.ft25h08_commands.specs.Rules.{touches_protected}
 use Rattle.ft25h08.specs.Activities.{is_changing}
 use Rattle.ft25h08.specs.Chip.{Chip, with_enable, with_activity}
@@ -33,15 +32,3 @@ woken (Changing change left) c h = absurd (true≢false h)
 -- the same of a chip
 pub wakes : (c : Chip) → is_changing c.activity ≡ false → frame_after c (171 ∷ []) 0 1 ≡ with_activity Idle c
 wakes c e = woken c.activity c e
-
--- no address of a range inside another passes a test that none of the other passes
-pub none_inside : (f : ℕ → Bool) (first n at m : ℕ) → any_in f first n ≡ false → first ≤ at → at + m ≤ first + n → any_in f at m ≡ false
-none_inside f first n at m none low high =
-    elim (cases_Bool (any_in f at m)) [
-      | inl some ↦
-          let h = any_gives f at m some in
-          let from = h.from in
-          let below = h.below in
-          absurd (true≢false (sym (any_from f first n (record { at = h.at; from = omega arith; below = omega arith; holds = h.holds })) ∙ none))
-      | inr e ↦ e
-    ]

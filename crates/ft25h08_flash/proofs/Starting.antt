@@ -17,7 +17,7 @@ use Rattle.ft25h08_flash.specs.ChipFlash.{sector_mark, chip_meaning, page_at, se
 use Rattle.ft25h08_flash.specs.Taken.{flash_meaning, taken_whole}
 use Rattle.ft25h08_flash.specs.Taking.{length_marks, get_or_marks}
 use Rattle.ft25h08_flash.specs.declared.taken.Ft25h08Flash.{Ft25h08Flash}
-use Rattle.ft25h08_flash.proofs.Sending.{none_inside}
+use Rattle.cells.proofs.Spans.{none_inside}
 
 -- what a program in its place keeps to
 pub record InPlace (at n end : ℕ) : Type 0 where

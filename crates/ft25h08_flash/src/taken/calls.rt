@@ -102,12 +102,7 @@ impl Ft25h08Flash {
         ensures after { flash_meaning self.new ≡ erase_started sector (flash_meaning self.old) }
     {
         enable(&mut self.chip);
-        start_erase(
-            &mut self.chip,
-            Address {
-                at: sector * 4096,
-            },
-        );
+        start_erase(&mut self.chip, Address { at: sector * 4096 });
         self.tallies.count_erase();
         InProgress::started()
     }
