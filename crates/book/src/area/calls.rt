@@ -127,6 +127,7 @@ impl Book {
     }
 
     /// The row in a slot, or nothing if the slot is empty.
+    #[tactic(auto, using(crate::proofs::Fitting::place_ends))]
     pub fn get<R: Row, F: ReadNorFlash>(
         &self,
         flash: &F,
