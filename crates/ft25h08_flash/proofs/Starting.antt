@@ -1,12 +1,13 @@
 -- The start of a change on a taken chip: why the chip accepts it, and what it means.
-use Rattle.std.proofs.Common.{◌≡◌, ℕ, ◌+◌, ◌-◌, ◌*◌, ◌/◌, ◌%◌, ◌<◌, ◌≤◌, true, false, leb, List, length, get_or, ap, ◌∙◌, mod-eq_of_lt, arith}
-use Rattle.std.proofs.lemmas.Bool.{and_parts, leb-true}
+use Rattle.std.proofs.Common.{◌≡◌, ℕ, ◌+◌, ◌-◌, ◌*◌, ◌/◌, ◌%◌, ◌<◌, ◌≤◌, Bool, true, false, eqb, leb, List, length, get_or, Ok, Err, sym, ap, ◌∙◌, mod-eq_of_lt, arith}
+use Rattle.std.proofs.lemmas.Bool.{and_parts, leb-true, cond-true, cond-false}
 use Rattle.cells.specs.Bytes.{changed}
 use Rattle.cells.specs.Changes.{programmed, erased}
 use Rattle.cells.specs.Latch.{latched}
 use Rattle.cells.proofs.Latching.{page_anded}
-use Rattle.flash.specs.Answers.{in_page}
-use Rattle.flash.specs.Meaning.{program_started, erase_started}
+use Rattle.flash.specs.Answers.{in_page, start_answer, fresh}
+use Rattle.flash.specs.Meaning.{Meaning, program_started, erase_started}
+use Rattle.flash.specs.declared.refusal.FlashRefusal.TheVariants.{Range, Busy, Protected}
 use Rattle.cells.specs.Tests.{any_in}
 use Rattle.ft25h08_commands.specs.Protection.{protected_by}
 use Rattle.ft25h08_commands.specs.Rules.{touches_protected, start_of}
@@ -18,6 +19,19 @@ use Rattle.ft25h08_flash.specs.Taken.{flash_meaning, taken_whole}
 use Rattle.ft25h08_flash.specs.Taking.{length_marks, get_or_marks}
 use Rattle.ft25h08_flash.specs.declared.taken.Ft25h08Flash.{Ft25h08Flash}
 use Rattle.cells.proofs.Spans.{none_inside}
+
+-- The four answers to a start, in the words of the flash. `program` and `erase_sector` are proved without them.
+pub out_of_place : (here : Bool) (sector : ℕ) (m : Meaning) → here ≡ false → Err Range ≡ start_answer here sector m
+out_of_place here sector m a = sym (cond-false here _ _ a)
+
+pub not_ready : (here : Bool) (sector : ℕ) (m : Meaning) → here ≡ true → eqb m.left 0 ≡ false → Err Busy ≡ start_answer here sector m
+not_ready here sector m a b = sym (cond-true here _ _ a ∙ cond-false (eqb m.left 0) _ _ b)
+
+pub marked : (here : Bool) (sector : ℕ) (m : Meaning) → here ≡ true → eqb m.left 0 ≡ true → get_or m.marks sector false ≡ true → Err Protected ≡ start_answer here sector m
+marked here sector m a b d = sym (cond-true here _ _ a ∙ cond-true (eqb m.left 0) _ _ b ∙ cond-true (get_or m.marks sector false) _ _ d)
+
+pub free : (here : Bool) (sector : ℕ) (m : Meaning) → here ≡ true → eqb m.left 0 ≡ true → get_or m.marks sector false ≡ false → Ok fresh ≡ start_answer here sector m
+free here sector m a b d = sym (cond-true here _ _ a ∙ cond-true (eqb m.left 0) _ _ b ∙ cond-false (get_or m.marks sector false) _ _ d)
 
 -- what a program in its place keeps to
 pub record InPlace (at n end : ℕ) : Type 0 where
