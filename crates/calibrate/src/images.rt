@@ -3,7 +3,8 @@ ghost use Rattle.std.specs.Prelude.{◌≡◌, not, ◌&&◌, ◌==◌};
 
 use crate::complaint::Complaint;
 use crate::files::{check_replaceable, read_at_most, replace};
-use flash::Image;
+use book::Book;
+use flash::{Image, ReadNorFlash};
 use std::alloc::Global;
 
 /// An image file has at most so many bytes: 256 sectors of 4,096.
@@ -14,6 +15,15 @@ pub(crate) fn not_an_image(heap: Global, path: &str) -> Complaint {
         heap,
         format_args!("{path:?} is no image: it has not 4096 x 1 to 256 bytes"),
     )
+}
+
+/// The book over all of an image.
+pub(crate) fn book_over<F: ReadNorFlash>(
+    rt: &HostRuntime,
+    path: &str,
+    image: &F,
+) -> Result<Book, Complaint> {
+    Book::new(image, 0, image.capacity()).map_err(|_| not_an_image(rt.alloc(), path))
 }
 
 /// Reads an image file into an image in memory, no sector of which is protected.

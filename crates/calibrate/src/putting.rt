@@ -1,9 +1,7 @@
 // Rows into image files.
 use crate::complaint::Complaint;
-use crate::images::{not_an_image, open_image, save};
+use crate::images::{book_over, open_image, save};
 use crate::typed::{Typed, typed_slot};
-use book::Book;
-use flash::ReadNorFlash;
 use rows::Row;
 
 /// Puts the row that two texts name into a slot of an image file, and prints what that cost.
@@ -17,7 +15,7 @@ pub(crate) fn put<R: Row + Typed + Drop>(
     let row = R::typed(rt.alloc(), first, second)?;
     let slot = typed_slot(rt.alloc(), slot)?;
     let mut image = open_image(rt, path)?;
-    let book = Book::new(&image, 0, image.capacity()).map_err(|_| not_an_image(rt.alloc(), path))?;
+    let book = book_over(rt, path, &image)?;
     let mut work = [0xff; 4096];
     let cost = book.put_row(&mut image, slot, &row, &mut work).map_err(|_| {
         Complaint::said(rt.alloc(), format_args!("{path:?} has no slot {slot}"))

@@ -1,11 +1,11 @@
 // Rows out of image files.
 use crate::complaint::Complaint;
 use crate::files::read_at_most;
-use crate::images::{MOST, not_an_image};
+use crate::images::{MOST, book_over, not_an_image};
 use crate::told::{Tell, Told};
 use crate::typed::typed_slot;
 use book::{Book, GetRefusal};
-use flash::{FileImage, ReadNorFlash};
+use flash::FileImage;
 use rows::Row;
 
 // The file image of these bytes, and the book over all of it.
@@ -16,7 +16,7 @@ fn open_book<'a>(
 ) -> Result<(FileImage<'a>, Book), Complaint> {
     FileImage::refusal(bytes).map_err(|_| not_an_image(rt.alloc(), path))?;
     let image = FileImage::new(bytes);
-    let book = Book::new(&image, 0, image.capacity()).map_err(|_| not_an_image(rt.alloc(), path))?;
+    let book = book_over(rt, path, &image)?;
     Ok((image, book))
 }
 
