@@ -94,10 +94,6 @@ none_at f first n a none low high =
       | inr e ↦ e
     ]
 
--- a test that an address of the range passes
-pub any_found : (f : ℕ → Bool) (first n a : ℕ) → first ≤ a → a < first + n → f a ≡ true → true ≡ any_in f first n
-any_found f first n a low high here = sym (any_from f first n (record { at = a; from = low; below = high; holds = here }))
-
 -- a range counted from its first address
 pub any_shifted : (f g : ℕ → Bool) (first n : ℕ) → ((k : ℕ) → k < n → f k ≡ g (first + k)) → any_in f 0 n ≡ any_in g first n
 any_shifted f g first n same =

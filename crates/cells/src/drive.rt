@@ -1,9 +1,8 @@
 // The answer buffer: what a chip drives for each of the first `n` bytes of a frame. Bytes from `n` on are untouched.
-ghost use Rattle.std.specs.Prelude.{◌≡◌, ℕ, ◌+◌, ◌-◌, ◌^◌, ◌<◌, ◌≤◌, min, length};
-ghost use Rattle.cells.specs.Bytes.{counted, wrapped};
+ghost use Rattle.std.specs.Prelude.{◌≡◌};
 ghost use Rattle.cells.specs.Driven.{driven, silent, repeated, read_out};
 
-use crate::range::{change_range, erase};
+use crate::range::{byte_wrapped, change_range, erase};
 
 /// Nothing is driven: the line floats high.
 pub fn drive_nothing(answer: &mut [u8], n: usize)
@@ -19,36 +18,20 @@ pub fn drive_repeated(answer: &mut [u8], n: usize, value: u8)
     change_range(answer, 0, n, |i, _| if i == 0 { 0xff } else { value });
 }
 
-// How many cells can be copied at once: up to the last cell, and as far as there is room.
-fn stretch(cells: usize, start: usize, room: usize) -> usize
-    requires { start ≤ cells }
-    ensures { result ≡ min (cells - start) room }
-{
-    (cells - start).min(room)
-}
-
-// Fills a buffer with the cells from an address on, going from the last cell to the first.
-fn copy_wrapped(part: &mut [u8], cells: &[u8], at: usize)
-    requires some { 0 < length cells.now }
-    requires low { at < 2 ^ 32 }
-    ensures { part.new ≡ counted (λ k. wrapped cells.now (at + k)) (length part.old) }
-{
-    let mut pos = 0;
-    while pos < part.len() {
-        let start = (at + pos) % cells.len();
-        let len = stretch(cells.len(), start, part.len() - pos);
-        part[pos..pos + len].copy_from_slice(&cells[start..start + len]);
-        pos += len;
-    }
-}
-
 /// FF for `skip` bytes, then the cells from the address `at` on, going from the last cell to the first.
 pub fn drive_range(answer: &mut [u8], n: usize, cells: &[u8], at: u32, skip: usize)
     ensures after { answer.new ≡ driven (read_out cells.now at skip) n answer.old }
 {
-    drive_nothing(answer, n);
-    let end = n.min(answer.len());
-    if skip < end && !cells.is_empty() {
-        copy_wrapped(&mut answer[skip..end], cells, at as usize);
+    if cells.is_empty() {
+        drive_nothing(answer, n);
+        return;
     }
+    let start = at as usize % cells.len();
+    change_range(answer, 0, n, |i, _| {
+        if i < skip {
+            0xff
+        } else {
+            byte_wrapped(cells, start + (i - skip))
+        }
+    });
 }

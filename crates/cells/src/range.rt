@@ -10,11 +10,14 @@ fn end_of(first: usize, len: usize, size: usize) -> usize
     first.saturating_add(len).min(size)
 }
 
-// The byte of a buffer that is repeated over all addresses; 0 if the buffer is empty.
-fn byte_wrapped(bytes: &[u8], at: usize) -> u8
+// The byte of a buffer that is repeated over all addresses; 0 if the buffer is empty. Most addresses lie in the buffer, and
+// need no division.
+pub(crate) fn byte_wrapped(bytes: &[u8], at: usize) -> u8
     ensures { result ≡ wrapped bytes.now at }
 {
-    if bytes.is_empty() {
+    if at < bytes.len() {
+        bytes[at]
+    } else if bytes.is_empty() {
         0
     } else {
         bytes[at % bytes.len()]
