@@ -32,7 +32,7 @@ enum Task<'a> {
     Put(&'a str, &'a str, &'a str),
 }
 
-// Does it with rows of one kind.
+// Does the task with rows of one kind.
 fn run_rows<R: Row + Typed + Tell + Drop>(
     rt: &HostRuntime,
     image: &str,
@@ -45,7 +45,7 @@ fn run_rows<R: Row + Typed + Tell + Drop>(
     }
 }
 
-// Does it with rows of the kind that a word names.
+// Does the task with rows of the kind that a word names.
 fn run_kind(rt: &HostRuntime, kind: &str, image: &str, task: Task<'_>) -> Result<(), Complaint> {
     match kind {
         "temperature" => run_rows::<Temperature>(rt, image, task),

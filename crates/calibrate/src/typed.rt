@@ -66,35 +66,23 @@ fn reflector_from(name: &str, millimetres: &str) -> Option<Reflector>
     reflector_of(name, offset)
 }
 
-fn no_offset(heap: Global, text: &str) -> Complaint {
-    Complaint::said(
-        heap,
-        format_args!("{text:?} is no offset: millimetres from -99.99 to 99.99, in steps of 0.01"),
-    )
+// What a typed text has to be, and is not.
+fn is_no(heap: Global, text: &str, what: &str) -> Complaint {
+    Complaint::said(heap, format_args!("{text:?} is no {what}"))
 }
 
-fn no_degrees(heap: Global, text: &str) -> Complaint {
-    Complaint::said(
-        heap,
-        format_args!(
-            "{text:?} is no temperature: degrees Celsius from -40.0 to 85.0, in steps of 0.1"
-        ),
-    )
-}
+const OFFSET: &str = "offset: millimetres from -99.99 to 99.99, in steps of 0.01";
 
-fn no_name(heap: Global, text: &str) -> Complaint {
-    Complaint::said(
-        heap,
-        format_args!("{text:?} is no name: 1 to 8 characters from space to ~"),
-    )
-}
+const DEGREES: &str = "temperature: degrees Celsius from -40.0 to 85.0, in steps of 0.1";
+
+const NAME: &str = "name: 1 to 8 characters from space to ~";
 
 /// The number of a slot.
 pub(crate) fn typed_slot(heap: Global, text: &str) -> Result<usize, Complaint>
     ensures { IfOk result (λ slot. whole_of text.now ≡ Some slot) }
 {
     let slot = read_whole(text.as_bytes());
-    slot.ok_or_else(|| Complaint::said(heap, format_args!("{text:?} is no slot: decimal digits")))
+    slot.ok_or_else(|| is_no(heap, text, "slot: decimal digits"))
 }
 
 impl Typed for Temperature {
@@ -103,9 +91,9 @@ impl Typed for Temperature {
     fn typed(heap: Global, celsius: &str, millimetres: &str) -> Result<Temperature, Complaint> {
         temperature_from(celsius, millimetres).ok_or_else(|| {
             if temperature_from(celsius, "0").is_none() {
-                no_degrees(heap, celsius)
+                is_no(heap, celsius, DEGREES)
             } else {
-                no_offset(heap, millimetres)
+                is_no(heap, millimetres, OFFSET)
             }
         })
     }
@@ -117,9 +105,9 @@ impl Typed for Reflector {
     fn typed(heap: Global, name: &str, millimetres: &str) -> Result<Reflector, Complaint> {
         reflector_from(name, millimetres).ok_or_else(|| {
             if reflector_from(name, "0").is_none() {
-                no_name(heap, name)
+                is_no(heap, name, NAME)
             } else {
-                no_offset(heap, millimetres)
+                is_no(heap, millimetres, OFFSET)
             }
         })
     }

@@ -13,10 +13,10 @@ pub enum RowRefusal {
     NoRow,
 }
 
+/// The number by which a refusal is known.
 impl From<RowRefusal> for u8 {
     ghost from_gives = { λ refusal number. number ≡ row_number_of refusal };
 
-    /// The number by which the refusal is known.
     fn from(refusal: RowRefusal) -> u8 {
         match refusal {
             RowRefusal::Length => 1,

@@ -96,7 +96,7 @@ impl NorFlash for Image {
         if !fits_page(at, new.len(), self.bytes.len()) {
             return Err(FlashRefusal::Range);
         }
-        start_refusal(self.is_ready(), self.is_protected(at / 4096)?)?;
+        start_refusal(self.is_ready(), self.marks[at / 4096])?;
         self.pending = Some(Pending::Program {
             at,
             new: ArrayVec::try_from(new).unwrap(),
