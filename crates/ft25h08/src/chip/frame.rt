@@ -36,25 +36,23 @@ impl Ft25h08 {
         ensures after { chip_of self.new ≡ frame_after (chip_of self.old) bytes.now odd (length answer.old) }
         ensures driven { answer.new ≡ answer_after (chip_of self.old) bytes.now odd answer.old }
     {
-        match admit(
+        let verdict = admit(
             self.conditions(),
             Capacity::new(self.array.len()),
             bytes,
             odd,
             answer.len(),
-        ) {
+        );
+        match verdict {
             Ok(()) => {
                 let command = decode(bytes);
                 self.drive(command, bytes.len(), answer);
                 self.act(command, bytes);
-                Ok(())
             }
-            Err(FrameRefusal::Size) => Err(FrameRefusal::Size),
-            Err(refusal) => {
-                drive_nothing(answer, bytes.len());
-                Err(refusal)
-            }
+            Err(FrameRefusal::Size) => {}
+            Err(_) => drive_nothing(answer, bytes.len()),
         }
+        verdict
     }
 
     fn conditions(&self) -> Conditions
