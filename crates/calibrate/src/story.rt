@@ -50,18 +50,18 @@ fn programmed_over(old: [u8; 6], new: [u8; 6]) -> [u8; 6] {
     left
 }
 
-// A new FT25H08, taken as a flash.
-fn new_flash(heap: Global) -> Result<Ft25h08Flash, Complaint> {
-    let array = vec![in heap; 0xff; 1_048_576]?;
+// A new chip over an array, taken as a flash.
+fn flash_over(array: Vec<u8>) -> Result<Ft25h08Flash, Complaint> {
     let ticks = Ticks::bench();
-    let Ok(()) = Ft25h08::birth_refusal(array.len(), ticks) else {
-        return Err(Complaint::Story);
-    };
+    Ft25h08::birth_refusal(array.len(), ticks).map_err(broken)?;
     let chip = Ft25h08::new(array, ticks);
-    let Ok(()) = Ft25h08Flash::refusal(&chip) else {
-        return Err(Complaint::Story);
-    };
+    Ft25h08Flash::refusal(&chip).map_err(broken)?;
     Ok(Ft25h08Flash::take(chip))
+}
+
+// A new FT25H08 of 1 MiB, taken as a flash.
+fn new_flash(heap: Global) -> Result<Ft25h08Flash, Complaint> {
+    flash_over(vec![in heap; 0xff; 1_048_576]?)
 }
 
 fn put(
