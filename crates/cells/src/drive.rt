@@ -1,9 +1,9 @@
 // The answer buffer: what a chip drives for each of the first `n` bytes of a frame. Bytes from `n` on are untouched.
-ghost use Rattle.std.specs.Prelude.{◌≡◌, ℕ, ◌+◌, ◌-◌, ◌^◌, ◌<◌, cond, nat_lt};
-ghost use Rattle.cells.specs.Bytes.{wrapped};
+ghost use Rattle.std.specs.Prelude.{◌≡◌, ℕ, ◌+◌, ◌-◌, ◌<◌, ◌≤◌, min, length};
+ghost use Rattle.cells.specs.Bytes.{counted, wrapped};
 ghost use Rattle.cells.specs.Driven.{driven, silent, repeated, read_out};
 
-use crate::range::{byte_wrapped, change_range, erase};
+use crate::range::{change_range, erase};
 
 /// Nothing is driven: the line floats high.
 pub fn drive_nothing(answer: &mut [u8], n: usize)
@@ -19,15 +19,26 @@ pub fn drive_repeated(answer: &mut [u8], n: usize, value: u8)
     change_range(answer, 0, n, |i, _| if i == 0 { 0xff } else { value });
 }
 
-// What is driven at place i, where the first cell to be read is `start` of them.
-fn byte_read(cells: &[u8], start: usize, skip: usize, i: usize) -> u8
-    requires { start + i < 2 ^ 64 }
-    ensures { result ≡ cond (nat_lt i skip) 255 (wrapped cells.now (start + (i - skip))) }
+// How many cells can be copied at once: up to the last cell, and as far as there is room.
+fn stretch(cells: usize, start: usize, room: usize) -> usize
+    requires { start ≤ cells }
+    ensures { result ≡ min (cells - start) room }
 {
-    if i < skip {
-        0xff
-    } else {
-        byte_wrapped(cells, start + (i - skip))
+    (cells - start).min(room)
+}
+
+// Fills a buffer with the cells from `start` on, going from the last cell to the first, a stretch at a time.
+fn copy_wrapped(part: &mut [u8], cells: &[u8], start: usize)
+    requires { start < length cells.now }
+    ensures { part.new ≡ counted (λ k. wrapped cells.now (start + k)) (length part.old) }
+{
+    let mut pos = 0;
+    let mut next = start;
+    while pos < part.len() {
+        let len = stretch(cells.len(), next, part.len() - pos);
+        part[pos..pos + len].copy_from_slice(&cells[next..next + len]);
+        pos += len;
+        next = 0;
     }
 }
 
@@ -35,10 +46,9 @@ fn byte_read(cells: &[u8], start: usize, skip: usize, i: usize) -> u8
 pub fn drive_range(answer: &mut [u8], n: usize, cells: &[u8], at: u32, skip: usize)
     ensures after { answer.new ≡ driven (read_out cells.now at skip) n answer.old }
 {
-    if cells.is_empty() {
-        drive_nothing(answer, n);
-        return;
+    drive_nothing(answer, n);
+    let end = n.min(answer.len());
+    if skip < end && !cells.is_empty() {
+        copy_wrapped(&mut answer[skip..end], cells, at as usize % cells.len());
     }
-    let start = at as usize % cells.len();
-    change_range(answer, 0, n, |i, _| byte_read(cells, start, skip, i));
 }

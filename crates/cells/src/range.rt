@@ -12,7 +12,7 @@ fn end_of(first: usize, len: usize, size: usize) -> usize
 
 // The byte of a buffer that is repeated over all addresses; 0 if the buffer is empty. Most addresses lie in the buffer, and
 // need no division.
-pub(crate) fn byte_wrapped(bytes: &[u8], at: usize) -> u8
+fn byte_wrapped(bytes: &[u8], at: usize) -> u8
     ensures { result ≡ wrapped bytes.now at }
 {
     if at < bytes.len() {
