@@ -1,5 +1,5 @@
 -- What an image has under way, once it has landed.
-use Rattle.std.specs.Prelude.{◌≡◌, ℕ, Bool, List, length, Option, Some, None, refl}
+use Rattle.std.specs.Prelude.{◌≡◌, ℕ, min, Bool, List, length, take, Option, Some, None, refl}
 use Rattle.std.proofs.Common.{ap, arith}
 use Rattle.cells.specs.Changes.{anded, erased}
 use Rattle.cells.proofs.Ranges.{length-changed}
@@ -11,7 +11,7 @@ use Rattle.flash.specs.declared.image.Pending.TheVariants.{Program, Erase}
 -- as many bytes as before
 pub length-landed : (p : Option Pending) (old : List ℕ) → length (landed p old) ≡ length old
 length-landed None old = refl
-length-landed (Some (Program at new)) old = length-changed at (length new.items) (anded at new.items) old
+length-landed (Some (Program at count new)) old = length-changed at (length (take (min count 256) new)) (anded at (take (min count 256) new)) old
 length-landed (Some (Erase first)) old = length-changed first 4096 erased old
 
 -- with nothing under way the later bytes are the bytes

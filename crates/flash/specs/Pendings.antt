@@ -1,5 +1,5 @@
 -- What an image has under way: how long it takes, and what it leaves.
-use Rattle.std.specs.Prelude.{ℕ, Bool, List, length, Option, Some, None}
+use Rattle.std.specs.Prelude.{ℕ, min, Bool, List, length, take, Option, Some, None}
 use Rattle.cells.specs.Bytes.{changed}
 use Rattle.cells.specs.Changes.{anded, erased}
 use Rattle.flash.specs.Meaning.{Meaning}
@@ -14,7 +14,7 @@ ticks_of (Some p) = 1
 -- the bytes once it has landed
 abbrev pub landed : Option Pending → List ℕ → List ℕ
 landed None old = old
-landed (Some (Program at new)) old = changed at (length new.items) (anded at new.items) old
+landed (Some (Program at count new)) old = changed at (length (take (min count 256) new)) (anded at (take (min count 256) new)) old
 landed (Some (Erase first)) old = changed first 4096 erased old
 
 -- what an image with a change under way means

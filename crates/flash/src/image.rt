@@ -2,17 +2,22 @@
 ghost use Rattle.std.specs.Prelude.{◌≡◌, ◌*◌, ◌<◌, ◌≤◌, vec_len};
 
 use crate::tallies::Tallies;
-use arrayvec::ArrayVec;
 
 mod calls;
 
 /// What an image has under way.
-#[derive(Drop)]
+#[derive(Clone, Copy)]
 pub enum Pending {
-    /// these bytes are to be ANDed in at an address
-    Program { at: usize, new: ArrayVec<u8, 256> },
+    /// the first `count` of these bytes are to be ANDed in at an address
+    Program {
+        at: usize,
+        count: usize,
+        new: [u8; 256],
+    },
     /// the sector from this address on is to become FF
-    Erase { first: usize },
+    Erase {
+        first: usize,
+    },
 }
 
 /// An image of a flash in memory, with a yes/no mark for each sector. A program or an erase takes one tick.

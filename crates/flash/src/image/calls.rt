@@ -1,5 +1,5 @@
 // What an image does.
-ghost use Rattle.std.specs.Prelude.{◌≡◌, length, None, Some, Ok, vec_len, ◌==◌};
+ghost use Rattle.std.specs.Prelude.{◌≡◌, ◌≤◌, length, take, None, Some, Ok, vec_len, ◌==◌};
 ghost use Rattle.flash.specs.Answers.{image_answer};
 ghost use Rattle.flash.specs.Images.{image_meaning, image_most};
 ghost use Rattle.flash.specs.Pendings.{landed, meaning_of};
@@ -13,14 +13,25 @@ use crate::page::fits_page;
 use crate::refusal::FlashRefusal;
 use crate::tallies::Tallies;
 use crate::traits::{NorFlash, ReadNorFlash};
-use arrayvec::ArrayVec;
+
+// The bytes of a program at the front of a page's worth.
+fn page_of(new: &[u8]) -> [u8; 256]
+    requires { length new.now ≤ 256 }
+    ensures { take (length new.now) result ≡ new.now }
+{
+    let mut page = [0xff; 256];
+    page[..new.len()].copy_from_slice(new);
+    page
+}
 
 // Makes the change that was under way.
 fn land(pending: Pending, bytes: &mut [u8])
     ensures { bytes.new ≡ landed (Some pending) bytes.old }
 {
     match pending {
-        Pending::Program { at, new } => cells::program_bytes(bytes, at, &new),
+        Pending::Program { at, count, new } => {
+            cells::program_bytes(bytes, at, &new[..count.min(256)])
+        }
         Pending::Erase { first } => cells::erase(bytes, first, 4096),
     }
 }
@@ -99,7 +110,8 @@ impl NorFlash for Image {
         start_refusal(self.is_ready(), self.marks[at / 4096])?;
         self.pending = Some(Pending::Program {
             at,
-            new: ArrayVec::try_from(new).unwrap(),
+            count: new.len(),
+            new: page_of(new),
         });
         self.tallies.count_program();
         Ok(InProgress::started())
@@ -115,8 +127,9 @@ impl NorFlash for Image {
     }
 
     fn tick(&mut self) {
-        if let Some(pending) = self.pending.take() {
+        if let Some(pending) = self.pending {
             land(pending, &mut self.bytes);
+            self.pending = None;
         }
     }
 

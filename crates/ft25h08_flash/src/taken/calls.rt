@@ -150,12 +150,17 @@ impl NorFlash for Ft25h08Flash {
         if !fits_page(at, new.len(), self.chip.capacity()) {
             return Err(FlashRefusal::Range);
         }
-        start_refusal(self.is_ready(), self.mark_of(at / 4096))?;
+        let ready = self.is_ready();
+        start_refusal(ready, ready && self.mark_of(at / 4096))?;
         Ok(self.send_program(at, new))
     }
 
     fn erase_sector(&mut self, sector: usize) -> Result<InProgress, FlashRefusal> {
-        start_refusal(self.is_ready(), self.is_protected(sector)?)?;
+        if sector >= self.sectors() {
+            return Err(FlashRefusal::Range);
+        }
+        let ready = self.is_ready();
+        start_refusal(ready, ready && self.mark_of(sector))?;
         Ok(self.send_erase(sector))
     }
 
