@@ -9,12 +9,25 @@ mod text;
 
 use part::newborn_bench;
 use replay::Replay;
-use std::io::{Read, Write};
+use std::alloc::AllocError;
+use std::io::{self, ErrorKind, Read, Write};
 use text::Text;
 
+// A trace begins with room for this many bytes. From there the room grows by an eighth and then doubles, so that a trace
+// whose length is a power of two does not fill it just before its end.
+const ROOM: usize = 1_048_576;
+
+// Memory that runs out while the trace is read is told as it is everywhere else in the program.
+fn unread(error: io::Error) -> anyhow::Error {
+    match error.kind() {
+        ErrorKind::OutOfMemory if error.raw_os_error().is_none() => AllocError.into(),
+        _ => error.into(),
+    }
+}
+
 fn read_trace(rt: &HostRuntime) -> anyhow::Result<Vec<u8>> {
-    let mut trace = Vec::new(rt.alloc());
-    rt.stdin().read_to_end(&mut trace)?;
+    let mut trace = Vec::with_capacity(rt.alloc(), ROOM)?;
+    rt.stdin().read_to_end(&mut trace).map_err(unread)?;
     Ok(trace)
 }
 

@@ -6,8 +6,9 @@ use std::{fs, io};
 
 // Reads a file. Of one that is longer than `most` bytes it reads one byte more than that.
 fn read_part(rt: &HostRuntime, path: &str, most: usize) -> io::Result<Vec<u8>> {
-    let mut bytes = Vec::new(rt.alloc());
     let mut part = File::open(rt, path)?.take((most as u64).saturating_add(1));
+    // One place more than can be read, so that the end is found without growing.
+    let mut bytes = Vec::with_capacity(rt.alloc(), most.saturating_add(2))?;
     part.read_to_end(&mut bytes)?;
     Ok(bytes)
 }
