@@ -32,7 +32,7 @@ signed_minus (Some n) =
       | inr h ↦ let t : ltb n (2 ^ 31) ≡ false = le-ltb _ _ h in rw t
     ]
 
-fixed_minus : (places : ℕ) (text : List ℕ) → 1 ≤ length text → get_or text 0 0 ≡ 45 → fixed_of places text ≡ signed true (size_of places (drop 1 text))
+pub fixed_minus : (places : ℕ) (text : List ℕ) → 1 ≤ length text → get_or text 0 0 ≡ 45 → fixed_of places text ≡ signed true (size_of places (drop 1 text))
 fixed_minus places [] h a = absurd (omega arith)
 fixed_minus places (x ∷ cs) h a = let p : eqb x 45 ≡ true = eq-eqb _ _ a in rw p
 
