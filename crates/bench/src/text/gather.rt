@@ -4,16 +4,8 @@ ghost use Rattle.bench.specs.Gathered.{text_of};
 ghost use Rattle.bench.specs.Texts.{hex_of};
 
 use crate::text::Text;
+use crate::text::hex::write_hex;
 use std::alloc::{AllocError, Global};
-
-// Writes each byte as a pair of lowercase digits, into as many bytes as these are.
-#[tactic(auto, using(crate::proofs::Appending::hex_lower))]
-fn write_hex(digits: &mut [u8], bytes: &[u8])
-    requires { length digits.old ≡ 2 * length bytes.now }
-    ensures { digits.new ≡ hex_of bytes.now }
-{
-    let _ = hex::encode_to_slice(bytes, digits);
-}
 
 impl Text {
     /// No text.
