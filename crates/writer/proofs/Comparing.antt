@@ -1,5 +1,6 @@
 -- Whether some byte of a list passes a test, or some pair of bytes at one place of two lists.
-use Rattle.std.proofs.Common.{◌≡◌, ℕ, suc, ◌+◌, Bool, ◌||◌, List, [], ◌∷◌, length, get_or, refl, ap, ◌∙◌, arith}
+use Rattle.std.proofs.Common.{◌≡◌, ℕ, suc, ◌+◌, Bool, true, false, not, eqb, nat_eq, ◌&&◌, ◌||◌, List, [], ◌∷◌, length, get_or, refl, ap, ◌∙◌, arith}
+use lib.Pointwise.{pointwise}
 use Rattle.std.specs.List.{list_any, zip}
 use Rattle.std.proofs.lemmas.Slice.Zip.{length-zip, get_or-zip}
 use Rattle.cells.specs.Tests.{any_in}
@@ -20,3 +21,14 @@ any_pair test xs ys same =
     ∙ ap (λ (m : ℕ). any_in (λ k. test (get_or (zip xs ys) k (0, 0)).0 (get_or (zip xs ys) k (0, 0)).1) 0 m) n
     ∙ any_same (λ k. test (get_or (zip xs ys) k (0, 0)).0 (get_or (zip xs ys) k (0, 0)).1) (λ k. test (get_or xs k 0) (get_or ys k 0)) 0 (length ys)
     (λ k low high. ap (λ (p : ℕ × ℕ). test p.0 p.1) (get_or-zip xs ys k (0, 0) (omega arith) (omega arith)))
+
+not_both : (a b : Bool) → not (a && b) ≡ not a || not b
+not_both true b = refl
+not_both false b = refl
+
+-- lists of one length that are not the same have unlike bytes at some place
+pub any_unlike : (xs ys : List ℕ) → length xs ≡ length ys → not (pointwise nat_eq xs ys) ≡ list_any (λ (p : ℕ × ℕ). not (eqb p.0 p.1)) (zip xs ys)
+any_unlike [] [] same = refl
+any_unlike [] (y ∷ ys) same = absurd (omega arith)
+any_unlike (x ∷ xs) [] same = absurd (omega arith)
+any_unlike (x ∷ xs) (y ∷ ys) same = not_both (nat_eq x y) (pointwise nat_eq xs ys) ∙ ap (λ (b : Bool). not (eqb x y) || b) (any_unlike xs ys (omega arith))

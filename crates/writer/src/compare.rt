@@ -1,12 +1,13 @@
 // What stands against what is wanted, byte by byte.
-ghost use Rattle.std.specs.Prelude.{◌≡◌, not, length, ◌==◌};
+ghost use Rattle.std.specs.Prelude.{◌≡◌, not, length, nat_eq, ◌==◌};
+ghost use lib.Pointwise.{pointwise};
 ghost use Rattle.cells.specs.Bits.{rises};
 ghost use Rattle.cells.specs.Tests.{any_in};
 ghost use Rattle.writer.specs.Needed.{differs_at, rises_at, written_at};
 
-// Whether a byte has to change.
-fn must_change(old: u8, new: u8) -> bool
-    ensures { result ≡ not (old == new) }
+// Whether two slices are not the same, byte for byte.
+fn are_unlike(old: &[u8], new: &[u8]) -> bool
+    ensures { result ≡ not (pointwise nat_eq old.now new.now) }
 {
     old != new
 }
@@ -16,9 +17,7 @@ pub(crate) fn any_differs(old: &[u8], new: &[u8]) -> bool
     requires { length old.now ≡ length new.now }
     ensures { result ≡ any_in (differs_at old.now new.now) 0 (length new.now) }
 {
-    old.iter()
-        .zip(new)
-        .any(|(old, new)| must_change(*old, *new))
+    are_unlike(old, new)
 }
 
 // Whether a byte that is to stand in an erased place has to be programmed: it is not FF.
