@@ -1,10 +1,16 @@
 -- Whether some byte of a list passes a test, or some pair of bytes at one place of two lists.
-use Rattle.std.proofs.Common.{◌≡◌, ℕ, suc, ◌+◌, Bool, true, false, not, eqb, nat_eq, ◌&&◌, ◌||◌, List, [], ◌∷◌, length, get_or, refl, ap, ◌∙◌, arith}
+use Rattle.std.proofs.Common.{◌≡◌, ℕ, suc, ◌+◌, Bool, true, false, not, eqb, nat_eq, ◌&&◌, ◌||◌, List, [], ◌∷◌, length, get_or, refl, sym, ap, ◌∙◌, arith}
+use Rattle.std.proofs.Math.Bool.{or_assoc, or-false}
 use lib.Pointwise.{pointwise}
-use Rattle.std.specs.List.{list_any, zip}
+use Rattle.std.specs.List.{list_any, zip, fold}
 use Rattle.std.proofs.lemmas.Slice.Zip.{length-zip, get_or-zip}
 use Rattle.cells.specs.Tests.{any_in}
 use Rattle.cells.proofs.Spans.{any_same, any_shifted}
+
+-- a fold that keeps what it found answers whether it began so or some element passes
+pub any_folded : {A : Type 0} (test : A → Bool) (found : Bool) (xs : List A) → fold (λ b x. b || test x) found xs ≡ found || list_any test xs
+any_folded test found [] = sym (or-false found)
+any_folded test found (x ∷ xs) = any_folded test (found || test x) xs ∙ or_assoc found (test x) (list_any test xs)
 
 -- by the places of the list
 pub any_at : {A : Type 0} (test : A → Bool) (d : A) (xs : List A) → list_any test xs ≡ any_in (λ k. test (get_or xs k d)) 0 (length xs)

@@ -6,3 +6,4 @@ pub mod Sectors
 pub mod Walking
 pub mod Fewest
 pub mod Comparing
+pub mod Chunks

@@ -1,5 +1,6 @@
 // What stands against what is wanted, byte by byte.
 ghost use Rattle.std.specs.Prelude.{◌≡◌, not, length, nat_eq, ◌==◌};
+ghost use Rattle.std.specs.List.{list_any, zip};
 ghost use lib.Pointwise.{pointwise};
 ghost use Rattle.cells.specs.Bits.{rises};
 ghost use Rattle.cells.specs.Tests.{any_in};
@@ -42,10 +43,22 @@ fn must_rise(old: u8, new: u8) -> bool
     old & new != new
 }
 
-// Whether some bit of some byte has to go from 0 to 1.
+// Whether some bit of some byte of a chunk has to go from 0 to 1. All of it is looked at, which lets the processor look
+// at many bytes at once.
+fn chunk_rises(old: &[u8], new: &[u8]) -> bool
+    ensures { result ≡ list_any (λ pair. rises pair.0 pair.1) (zip old.now new.now) }
+{
+    old.iter()
+        .zip(new)
+        .fold(false, |found, (old, new)| found | must_rise(*old, *new))
+}
+
+// Whether some bit of some byte has to go from 0 to 1. No chunk is looked at after the first that has one.
 pub(crate) fn any_rises(old: &[u8], new: &[u8]) -> bool
     requires { length old.now ≡ length new.now }
     ensures { result ≡ any_in (rises_at old.now new.now) 0 (length new.now) }
 {
-    old.iter().zip(new).any(|(old, new)| must_rise(*old, *new))
+    old.chunks(256)
+        .zip(new.chunks(256))
+        .any(|(old, new)| chunk_rises(old, new))
 }
