@@ -1,4 +1,4 @@
--- What `chunks` cuts a list into, and that some element of a list passes a test if one of some chunk does.
+-- What `chunks` cuts a list into, and that some pair of two lists passes a test exactly if some pair of some chunk does.
 use Rattle.std.proofs.Common.{◌≡◌, ℕ, zero, suc, ◌<◌, ◌≤◌, min, Bool, ◌||◌, List, [], ◌∷◌, ◌++◌, length, take, drop, refl, sym, ap, ◌∙◌, arith}
 use Rattle.std.proofs.Math.Seq.{take-append_seam, drop-append_seam}
 use Rattle.std.proofs.lemmas.Iterator.{YieldsList}
@@ -43,7 +43,7 @@ zip_parts (suc k) [] (y ∷ ys) same = absurd (omega (arith, same))
 zip_parts (suc k) (x ∷ xs) [] same = absurd (omega (arith, same))
 zip_parts (suc k) (x ∷ xs) (y ∷ ys) same = ap (λ ps. (x, y) ∷ ps) (zip_parts k xs ys (omega (arith, same)))
 
--- some pair of two lists of one length passes a test if one of some chunk of them does
+-- some pair of two lists of one length passes a test exactly if some pair of some chunk of them does
 pub any_chunk : {A B : Type 0} (test : A × B → Bool) (n size : ℕ) (xs : List A) (ys : List B) → length xs ≡ length ys → length xs ≤ n → 0 < size → list_any (λ p. list_any test (zip p.0 p.1)) (zip (cut n size xs) (cut n size ys)) ≡ list_any test (zip xs ys)
 unfolding cut
 any_chunk test zero size [] ys same short some = refl
